@@ -1,0 +1,4 @@
+pub mod Entries
+pub mod Placement
+pub mod Calls
+pub mod History
