@@ -2,3 +2,4 @@ pub mod Entries
 pub mod Placement
 pub mod Calls
 pub mod History
+pub mod Counted

@@ -4,6 +4,8 @@
 pub mod calls;
 pub mod conf;
 pub mod entries;
+mod placement;
+mod sizes;
 
 pub use calls::{Answer, Call};
 pub use conf::CacheConf;

@@ -1,0 +1,2 @@
+pub mod PlacementLemmas
+pub mod CountedLemmas
