@@ -1,2 +1,3 @@
 pub mod PlacementLemmas
 pub mod CountedLemmas
+pub mod KeysLemmas

@@ -1,10 +1,10 @@
 -- The least place at which a test holds.
-use Rattle.std.proofs.Common.{◌≡◌, ℕ, zero, suc, ◌+◌, ◌-◌, ◌<◌, ◌≤◌, Bool, true, false, cond, List, Option, None, Some, refl, sym, ap, ◌∙◌, inl, inr, arith}
+use Rattle.std.proofs.Common.{◌≡◌, ℕ, zero, suc, ◌+◌, ◌-◌, ◌<◌, ◌≤◌, Bool, true, false, cond, List, take, Option, None, Some, refl, sym, ap, ◌∙◌, inl, inr, arith}
 use Rattle.std.proofs.lemmas.Bool.{cases_eq, cases_Bool}
 use Rattle.std.proofs.lemmas.Option.{none-some, same_Some}
 use Rattle.uw_model.specs.declared.conf.CacheConf.{CacheConf}
 use Rattle.uw_model.specs.declared.entries.Entry.{Entry}
-use Rattle.uw_model.specs.Placement.{least_place, is_free, first_run}
+use Rattle.uw_model.specs.Placement.{least_place, is_free, first_run, fits, longest_front}
 
 -- the test fails at each place from one up to another
 abbrev pub FailsBetween : (ℕ → Bool) → ℕ → ℕ → Type 0
@@ -79,3 +79,20 @@ first_run_found conf list n s within free before =
 pub first_run_nowhere : (conf : CacheConf) (list : List Entry) (n s : ℕ) → s ≤ conf.blocks → conf.blocks < s + n → ((k : ℕ) → k < s → is_free conf list n k ≡ false) → None ≡ first_run conf list n
 first_run_nowhere conf list n s within past before =
     sym (least_place_nowhere (is_free conf list n) (conf.blocks + 1 - n) 0 (λ k _ b. before k (omega arith)))
+
+-- the longest front, by whether the front of just so many entries fits
+module _ (conf : CacheConf) (list : List Entry) (n : ℕ) where
+  pub front_fits : (count : ℕ) → fits conf (take count list) n ≡ true → longest_front conf list n count ≡ Some (take count list)
+  unfolding longest_front
+  front_fits zero e = rw e refl
+  front_fits (suc count) e = rw e refl
+
+  pub no_front : (count : ℕ) → fits conf (take count list) n ≡ false → count ≡ 0 → longest_front conf list n count ≡ None
+  unfolding longest_front
+  no_front zero e _ = rw e refl
+  no_front (suc count) e z = absurd (omega (arith, z))
+
+  pub shorter_front : (count : ℕ) → fits conf (take count list) n ≡ false → (count ≡ 0 → ⊥) → longest_front conf list n count ≡ longest_front conf list n (count - 1)
+  unfolding longest_front
+  shorter_front zero e nz = absurd (nz refl)
+  shorter_front (suc count) e nz = let back : count ≡ suc count - 1 = omega arith in rw e (ap (λ k. longest_front conf list n k) back)

@@ -3,3 +3,4 @@ pub mod Placement
 pub mod Calls
 pub mod History
 pub mod Counted
+pub mod Keys

@@ -4,6 +4,7 @@
 pub mod calls;
 pub mod conf;
 pub mod entries;
+mod keys;
 mod placement;
 mod sizes;
 

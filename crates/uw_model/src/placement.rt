@@ -1,7 +1,7 @@
 // Where a value goes, and what makes room for it.
-ghost use Rattle.std.specs.Prelude.{◌≡◌, ◌≤◌, ◌+◌, true, All, MatchOption, count_by, length};
+ghost use Rattle.std.specs.Prelude.{◌≡◌, ◌≤◌, ◌+◌, true, All, MatchOption, length, take, is_some, option_map, unwrap_or, vec_len, vec_capacity};
 ghost use Rattle.uw_model.specs.Entries.{IsCacheConf, IsEntry};
-ghost use Rattle.uw_model.specs.Placement.{is_alive, is_clear_of, is_free, first_run, fits};
+ghost use Rattle.uw_model.specs.Placement.{is_alive, alive_of, is_clear_of, is_free, first_run, fits, longest_front, room};
 ghost use Rattle.uw_model.specs.Counted.{counts, counted, is_in_the_way, IsBlockedUntil};
 
 use crate::sizes::end_of;
@@ -94,4 +94,62 @@ pub fn fits(conf: &CacheConf, entries: &[Entry], at: Option<u64>, n: u64) -> boo
     ensures { result ≡ fits conf.now (counted conf.now at entries.now) n }
 {
     (count(conf, entries, at) as u64) < conf.items && first_run(conf, entries, at, n).is_some()
+}
+
+/// How many entries the longest front of the list has that leaves room for one more entry of n blocks.
+fn longest_front(conf: &CacheConf, entries: &[Entry], n: u64) -> Option<usize>
+    requires conf { IsCacheConf conf.now }
+    requires entries { All (IsEntry conf.now) entries.now }
+    ensures { option_map (λ count. take count entries.now) result
+        ≡ longest_front conf.now entries.now n (length entries.now) }
+{
+    let mut count = entries.len();
+    'fronts: loop {
+        if fits(conf, &entries[..count], None, n) {
+            return Some(count);
+        }
+        if count == 0 {
+            return None;
+        }
+        count -= 1;
+    }
+}
+
+/// Drops the entries that are not alive at a moment.
+pub fn keep_alive(conf: &CacheConf, entries: &mut Vec<Entry>, moment: u64)
+    ensures alive { entries.new.items ≡ alive_of conf.now moment entries.old.items }
+    ensures shorter { vec_len entries.new ≤ vec_len entries.old }
+    ensures capacity { vec_capacity entries.new ≡ vec_capacity entries.old }
+{
+    entries.retain(|e| is_alive(conf, moment, e));
+}
+
+/// Makes room for one more entry of n blocks, by the policies that are set. Answers whether there is room then; where
+/// there is none, the list stays.
+pub fn make_room(conf: &CacheConf, entries: &mut Vec<Entry>, moment: u64, n: u64) -> bool
+    requires conf { IsCacheConf conf.now }
+    requires entries { All (IsEntry conf.now) entries.old.items }
+    ensures made { result ≡ is_some (room conf.now entries.old.items n moment) }
+    ensures list { entries.new.items ≡ unwrap_or (room conf.now entries.old.items n moment) entries.old.items }
+    ensures shorter { vec_len entries.new ≤ vec_len entries.old }
+    ensures capacity { vec_capacity entries.new ≡ vec_capacity entries.old }
+{
+    if fits(conf, entries, None, n) {
+        return true;
+    }
+    if conf.sweep_on_full && fits(conf, entries, Some(moment), n) {
+        keep_alive(conf, entries, moment);
+        return true;
+    }
+    if conf.purge_lru {
+        if let Some(count) = longest_front(conf, entries, n) {
+            entries.truncate(count);
+            return true;
+        }
+    }
+    if conf.clear_on_full {
+        entries.clear();
+        return true;
+    }
+    false
 }
