@@ -1,12 +1,14 @@
 -- The list without a key, where no entry has it and where one has.
-use Rattle.std.proofs.Common.{◌≡◌, ◌≢◌, ℕ, zero, suc, ◌+◌, ◌-◌, ◌<◌, ◌≤◌, Bool, true, false, not, ◌&&◌, cond, List, [], ◌∷◌, length, get_or, take, drop, filter, find, remove, refl, sym, ap, ◌∙◌, inl, inr, arith}
+use Rattle.std.proofs.Common.{◌≡◌, ◌≢◌, ℕ, zero, suc, ◌+◌, ◌-◌, ◌<◌, ◌≤◌, Bool, true, false, not, ◌&&◌, cond, List, [], ◌∷◌, length, get_or, take, drop, filter, remove, Some, None, refl, sym, ap, ◌∙◌, inl, inr, arith}
 use Rattle.std.specs.List.{list_all}
 use Rattle.std.specs.Str.{bytes_eq}
 use Rattle.std.proofs.lemmas.Slice.Eq.{bytes_eq-Decides}
 use Rattle.std.proofs.lemmas.Bool.{and_parts, not-true, false_from_ne_true, both_ways}
 use Rattle.std.proofs.lemmas.List.Recursion.{and_at}
+use Rattle.uw_model.specs.declared.conf.CacheConf.{CacheConf}
 use Rattle.uw_model.specs.declared.entries.Entry.{Entry}
-use Rattle.uw_model.specs.Calls.{without}
+use Rattle.uw_model.specs.Placement.{is_alive}
+use Rattle.uw_model.specs.Calls.{without, alive_at, got}
 use Rattle.uw_model.specs.Keys.{lacks, HaveOwnKeys, IsPlaceOf}
 
 -- a test that all pass keeps the whole list
@@ -43,3 +45,27 @@ without_at list key place own is d = ap (λ k. without k list) (sym (is.same d))
 
 pub without_none : (list : List Entry) (key : List ℕ) → lacks key list ≡ true → without key list ≡ list
 without_none list key none = filter_whole (λ e. not (bytes_eq e.key key)) list none
+
+-- the alive entry of a key, where no entry has the key and where one has
+pub alive_none : (conf : CacheConf) (now : ℕ) (list : List Entry) (key : List ℕ) → lacks key list ≡ true → alive_at conf list now key ≡ None
+alive_none conf now [] key none = refl
+alive_none conf now (e ∷ list) key none =
+    let parts = and_parts (not (bytes_eq e.key key)) (lacks key list) none in
+    rw (not-true (bytes_eq e.key key) parts.0) (alive_none conf now list key parts.1)
+
+alive_itself : (conf : CacheConf) (now : ℕ) (list : List Entry) (place : ℕ) (d : Entry) → HaveOwnKeys list → place < length list → alive_at conf list now (get_or list place d).key ≡ cond (is_alive conf now (get_or list place d)) (Some (get_or list place d)) None
+alive_itself conf now [] place d own within = absurd (omega arith)
+alive_itself conf now (e ∷ list) zero d own within =
+    rw (same_key e.key, alive_none conf now list e.key own.0) refl
+alive_itself conf now (e ∷ list) (suc place) d own within =
+    let here : place < length list = omega arith in
+    let x = get_or list place d in
+    let apart : bytes_eq e.key x.key ≡ false = other_key x.key e.key (not-true (bytes_eq x.key e.key) (list_all_each (λ o. not (bytes_eq o.key e.key)) list place d here own.0)) in
+    rw apart (alive_itself conf now list place d own.1 here)
+
+pub alive_place : (conf : CacheConf) (now : ℕ) (list : List Entry) (key : List ℕ) (place : ℕ) → HaveOwnKeys list → IsPlaceOf list key place → (d : Entry) → alive_at conf list now key ≡ cond (is_alive conf now (get_or list place d)) (Some (get_or list place d)) None
+alive_place conf now list key place own is d = ap (alive_at conf list now) (sym (is.same d)) ∙ alive_itself conf now list place d own is.within
+
+-- the list after a use of the entry at a place
+pub used_at : (conf : CacheConf) (list : List Entry) (place : ℕ) (d : Entry) → HaveOwnKeys list → place < length list → conf.purge_lru ≡ true → get_or list place d ∷ remove list place ≡ (got conf list (Some (get_or list place d))).list
+used_at conf list place d own within purges = rw purges (ap (λ l. get_or list place d ∷ l) (sym (without_itself list place d own within)))

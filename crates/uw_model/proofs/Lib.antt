@@ -1,3 +1,4 @@
 pub mod PlacementLemmas
 pub mod CountedLemmas
 pub mod KeysLemmas
+pub mod StateLemmas

@@ -7,6 +7,7 @@ pub mod entries;
 mod keys;
 mod placement;
 mod sizes;
+mod steps;
 
 pub use calls::{Answer, Call};
 pub use conf::CacheConf;

@@ -64,7 +64,7 @@ fn end_in_the_way(conf: &CacheConf, entries: &[Entry], at: Option<u64>, n: u64, 
 
 /// The least place from which n blocks exist that no entry that counts covers. It goes from place to place by the
 /// ends of the entries in the way, so it looks through the entries once more than there are at the most.
-fn first_run(conf: &CacheConf, entries: &[Entry], at: Option<u64>, n: u64) -> Option<u64>
+pub fn first_run(conf: &CacheConf, entries: &[Entry], at: Option<u64>, n: u64) -> Option<u64>
     requires conf { IsCacheConf conf.now }
     requires entries { All (IsEntry conf.now) entries.now }
     ensures { result ≡ first_run conf.now (counted conf.now at entries.now) n }
