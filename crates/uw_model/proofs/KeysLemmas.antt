@@ -1,5 +1,5 @@
 -- The list without a key, where no entry has it and where one has.
-use Rattle.std.proofs.Common.{◌≡◌, ◌≢◌, ℕ, zero, suc, ◌+◌, ◌-◌, ◌<◌, ◌≤◌, Bool, true, false, not, ◌&&◌, cond, List, [], ◌∷◌, length, get_or, take, drop, filter, remove, Some, None, refl, sym, ap, ◌∙◌, inl, inr, arith}
+use Rattle.std.proofs.Common.{◌≡◌, ◌≢◌, ℕ, zero, suc, ◌+◌, ◌-◌, ◌<◌, ◌≤◌, Bool, true, false, not, ◌&&◌, cond, List, [], ◌∷◌, length, get_or, take, drop, filter, remove, Option, Some, None, is_some, MatchOption, refl, sym, ap, ◌∙◌, inl, inr, arith}
 use Rattle.std.specs.List.{list_all}
 use Rattle.std.specs.Str.{bytes_eq}
 use Rattle.std.proofs.lemmas.Slice.Eq.{bytes_eq-Decides}
@@ -9,7 +9,7 @@ use Rattle.uw_model.specs.declared.conf.CacheConf.{CacheConf}
 use Rattle.uw_model.specs.declared.entries.Entry.{Entry}
 use Rattle.uw_model.specs.Placement.{is_alive}
 use Rattle.uw_model.specs.Calls.{without, alive_at, got}
-use Rattle.uw_model.specs.Keys.{lacks, HaveOwnKeys, IsPlaceOf}
+use Rattle.uw_model.specs.Keys.{lacks, HaveOwnKeys, IsPlaceOf, IsAlivePlace}
 
 -- a test that all pass keeps the whole list
 pub filter_whole : {X : Type 0} (p : X → Bool) (xs : List X) → list_all p xs ≡ true → filter p xs ≡ xs
@@ -69,3 +69,11 @@ alive_place conf now list key place own is d = ap (alive_at conf list now) (sym 
 -- the list after a use of the entry at a place
 pub used_at : (conf : CacheConf) (list : List Entry) (place : ℕ) (d : Entry) → HaveOwnKeys list → place < length list → conf.purge_lru ≡ true → get_or list place d ∷ remove list place ≡ (got conf list (Some (get_or list place d))).list
 used_at conf list place d own within purges = rw purges (ap (λ l. get_or list place d ∷ l) (sym (without_itself list place d own within)))
+
+-- there is an alive entry where it has a place
+nothing : Entry
+nothing = record { key = []; value = []; dies = 0; first = 0 }
+
+pub is_some_place : (conf : CacheConf) (list : List Entry) (now : ℕ) (key : List ℕ) (place : Option ℕ) → MatchOption place (alive_at conf list now key ≡ None) (IsAlivePlace conf list now key) → is_some place ≡ is_some (alive_at conf list now key)
+is_some_place conf list now key None h = sym (ap is_some h)
+is_some_place conf list now key (Some place) h = sym (ap is_some (h.found nothing))

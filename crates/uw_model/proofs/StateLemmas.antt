@@ -4,10 +4,11 @@ use Rattle.std.specs.List.{list_all}
 use Rattle.std.specs.Str.{bytes_eq}
 use Rattle.std.proofs.lemmas.Slice.Eq.{bytes_eq-Decides}
 use Rattle.std.proofs.lemmas.Bool.{and_from, not_from_false, false_from_ne_true}
-use Rattle.std.proofs.lemmas.List.Elements.{All-nil, All-cons}
+use Rattle.std.proofs.lemmas.List.Elements.{All-nil, All-cons, All-filter}
 use Rattle.uw_model.specs.declared.conf.CacheConf.{CacheConf}
 use Rattle.uw_model.specs.declared.entries.Entry.{Entry}
 use Rattle.uw_model.specs.Entries.{IsEntry, IsApartFrom, AreApart, IsState}
+use Rattle.uw_model.specs.Calls.{without}
 use Rattle.uw_model.specs.Keys.{lacks, HaveOwnKeys}
 
 pub entries_are : (conf : CacheConf) (list : List Entry) → AreApart conf list → All (IsEntry conf) list
@@ -29,3 +30,6 @@ entries_of_state conf list h = entries_are conf list h.apart
 
 pub keys_of_state : (conf : CacheConf) (list : List Entry) → IsState conf list → HaveOwnKeys list
 keys_of_state conf list h = own_keys conf list h.apart
+
+pub entries_without : (conf : CacheConf) (list : List Entry) (key : List ℕ) → IsState conf list → All (IsEntry conf) (without key list)
+entries_without conf list key h = All-filter (λ (e : Entry). not (bytes_eq e.key key)) (IsEntry conf) list (entries_of_state conf list h)

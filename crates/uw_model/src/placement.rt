@@ -131,6 +131,7 @@ pub fn make_room(conf: &CacheConf, entries: &mut Vec<Entry>, moment: u64, n: u64
     requires entries { All (IsEntry conf.now) entries.old.items }
     ensures made { result ≡ is_some (room conf.now entries.old.items n moment) }
     ensures list { entries.new.items ≡ unwrap_or (room conf.now entries.old.items n moment) entries.old.items }
+    ensures entries { All (IsEntry conf.now) entries.new.items }
     ensures shorter { vec_len entries.new ≤ vec_len entries.old }
     ensures capacity { vec_capacity entries.new ≡ vec_capacity entries.old }
 {
