@@ -15,7 +15,7 @@ pub entries_are : (conf : CacheConf) (list : List Entry) → AreApart conf list 
 entries_are conf [] h = All-nil (IsEntry conf)
 entries_are conf (e ∷ list) h = All-cons (IsEntry conf) e list h.0 (entries_are conf list h.2)
 
-lacks_apart : (conf : CacheConf) (e : Entry) (list : List Entry) → IsApartFrom conf e list → lacks e.key list ≡ true
+pub lacks_apart : (conf : CacheConf) (e : Entry) (list : List Entry) → IsApartFrom conf e list → lacks e.key list ≡ true
 lacks_apart conf e [] h = refl
 lacks_apart conf e (o ∷ list) h =
     and_from (not (bytes_eq o.key e.key)) (lacks e.key list) (not_from_false (bytes_eq o.key e.key) (false_from_ne_true (bytes_eq o.key e.key) (λ t. h.0.keys (sym ((bytes_eq-Decides o.key e.key).0 t))))) (lacks_apart conf e list h.1)

@@ -4,3 +4,4 @@ pub mod Calls
 pub mod History
 pub mod Counted
 pub mod Keys
+pub mod ListState
