@@ -71,7 +71,7 @@ pub used_at : (conf : CacheConf) (list : List Entry) (place : ℕ) (d : Entry) �
 used_at conf list place d own within purges = rw purges (ap (λ l. get_or list place d ∷ l) (sym (without_itself list place d own within)))
 
 -- there is an alive entry where it has a place
-nothing : Entry
+pub nothing : Entry
 nothing = record { key = []; value = []; dies = 0; first = 0 }
 
 pub is_some_place : (conf : CacheConf) (list : List Entry) (now : ℕ) (key : List ℕ) (place : Option ℕ) → MatchOption place (alive_at conf list now key ≡ None) (IsAlivePlace conf list now key) → is_some place ≡ is_some (alive_at conf list now key)

@@ -4,6 +4,7 @@
 pub mod calls;
 pub mod conf;
 pub mod entries;
+pub mod laws;
 mod keys;
 mod list_cache;
 mod placement;
