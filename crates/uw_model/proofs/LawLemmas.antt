@@ -1,5 +1,5 @@
 -- The laws of the definitions.
-use Rattle.std.proofs.Common.{◌≡◌, ◌≢◌, ℕ, zero, suc, ◌+◌, ◌-◌, ◌<◌, ◌≤◌, max, nat_lt, Bool, true, false, not, ◌&&◌, ◌||◌, ◌⊎◌, ◌↔◌, cond, List, [], ◌∷◌, length, get_or, All, Option, Some, None, is_some, unwrap_or, IsTrue, refl, sym, ap, ◌∙◌, inl, inr, arith}
+use Rattle.std.proofs.Common.{◌≡◌, ◌≢◌, ℕ, ◌+◌, ◌-◌, ◌<◌, ◌≤◌, max, Bool, true, false, ◌&&◌, ◌⊎◌, ◌↔◌, cond, List, ◌∷◌, get_or, All, Option, Some, None, is_some, unwrap_or, IsTrue, refl, sym, ap, ◌∙◌, arith}
 use Rattle.std.specs.List.{list_all}
 use Rattle.std.specs.Str.{bytes_eq}
 use Rattle.std.proofs.lemmas.Bool.{true_from_ne_false, false≢true, both_ways, and_from, cond-true, cond-false}
@@ -13,10 +13,10 @@ use Rattle.uw_model.specs.declared.calls.Call.TheVariants as calls
 use Rattle.uw_model.specs.declared.calls.Answer.TheVariants as answers
 use Rattle.uw_model.specs.Entries.{span, covers}
 use Rattle.uw_model.specs.Placement.{is_alive, is_clear_of, is_free, first_run, room}
-use Rattle.uw_model.specs.Calls.{Outcome, refused, is_bad_key, is_too_long, alive_at, without, got, placed, written, outcome, answer, next_state, dies_at}
+use Rattle.uw_model.specs.Calls.{Outcome, refused, is_bad_key, is_too_long, alive_at, without, got, placed, answer, next_state, dies_at}
 use Rattle.uw_model.specs.Laws.{is_refusal, IsLeastRun}
 use Rattle.uw_model.proofs.KeysLemmas.{nothing, list_all_each, same_key}
-use Rattle.uw_model.proofs.PlacementLemmas.{IsLeast, least_place_is, least_place_none, least_place_nowhere, first_run_found}
+use Rattle.uw_model.proofs.PlacementLemmas.{least_place_is, least_place_none, least_place_nowhere, first_run_found}
 
 -- ---- runs
 
@@ -34,21 +34,24 @@ blocked_covers conf n place e some blocked none =
     none (max e.first place) (omega arith) (omega arith) (omega arith, omega arith)
 
 pub free_covered : (conf : CacheConf) (list : List Entry) (n place : ℕ) → 1 ≤ n → IsTrue (is_free conf list n place) ↔ All (λ e. (block : ℕ) → place ≤ block → block < place + n → covers conf e block → ⊥) list
-free_covered conf list n place some =
-    (λ free k d within. clear_covers conf n place (get_or list k d) (list_all_each (is_clear_of conf place n) list k d within free),
-     λ none. and_from_places (list_all (is_clear_of conf place n)) (is_clear_of conf place n) refl (λ _ _. refl) list nothing (λ i within.
-     true_from_ne_false (is_clear_of conf place n (get_or list i nothing)) (λ blocked. blocked_covers conf n place (get_or list i nothing) some blocked (none i nothing within))))
+free_covered conf list n place some = (
+  λ free k d within. clear_covers conf n place (get_or list k d) (list_all_each (is_clear_of conf place n) list k d within free),
+  λ none. and_from_places (list_all (is_clear_of conf place n)) (is_clear_of conf place n) refl (λ _ _. refl) list nothing (λ i within.
+      true_from_ne_false (is_clear_of conf place n (get_or list i nothing)) (λ blocked. blocked_covers conf n place (get_or list i nothing) some blocked (none i nothing within))),
+)
 
 pub least_run : (conf : CacheConf) (list : List Entry) (n place : ℕ) → (first_run conf list n ≡ Some place) ↔ IsLeastRun conf list n place
-least_run conf list n place =
-    (λ e. let least = least_place_is (is_free conf list n) (conf.blocks + 1 - n) 0 place e in
+least_run conf list n place = (
+  λ e. let least = least_place_is (is_free conf list n) (conf.blocks + 1 - n) 0 place e in
       record { within = omega (arith, least.below); free = least.holds; least = λ before below. least.before before (omega arith) below },
-     λ h. sym (first_run_found conf list n place h.within h.free h.least))
+  λ h. sym (first_run_found conf list n place h.within h.free h.least),
+)
 
 pub no_run : (conf : CacheConf) (list : List Entry) (n : ℕ) → (first_run conf list n ≡ None) ↔ ((place : ℕ) → place + n ≤ conf.blocks → is_free conf list n place ≡ false)
-no_run conf list n =
-    (λ e place within. least_place_none (is_free conf list n) (conf.blocks + 1 - n) 0 e place (omega arith) (omega arith),
-     λ h. least_place_nowhere (is_free conf list n) (conf.blocks + 1 - n) 0 (λ k _ below. h k (omega arith)))
+no_run conf list n = (
+  λ e place within. least_place_none (is_free conf list n) (conf.blocks + 1 - n) 0 e place (omega arith) (omega arith),
+  λ h. least_place_nowhere (is_free conf list n) (conf.blocks + 1 - n) 0 (λ k _ below. h k (omega arith)),
+)
 
 -- ---- calls
 

@@ -4,8 +4,8 @@
 pub mod calls;
 pub mod conf;
 pub mod entries;
-pub mod laws;
 mod keys;
+pub mod laws;
 mod list_cache;
 mod placement;
 mod sizes;
