@@ -11,7 +11,7 @@ mod placement;
 mod sizes;
 mod steps;
 
-pub use calls::{Answer, Call};
+pub use calls::{Answer, Call, MathOp};
 pub use conf::CacheConf;
 pub use entries::Entry;
 pub use list_cache::ListCache;
