@@ -3,6 +3,8 @@
 
 mod bytes;
 mod lists;
+pub mod variables;
 
 pub use bytes::{Bytes, Memory};
 pub use lists::{BytesList, NumberList};
+pub use variables::Pair;
