@@ -1,5 +1,5 @@
 -- What a read takes from a source and a write gives to a sink, where these tell what they hold.
-use Rattle.std.specs.Prelude.{◌≡◌, ℕ, ◌<◌, ◌≤◌, Bool, true, false, List, [], ◌++◌, length, take, Option, None, Some, IfSome}
+use Rattle.std.specs.Prelude.{◌≡◌, ℕ, ◌<◌, ◌≤◌, Bool, true, false, List, [], ◌++◌, length, take, Option, IfSome}
 use Rattle.std.specs.Option.{option_map}
 use Rattle.uw_outside.specs.Faults.{Rose}
 use Rattle.uw_outside.specs.declared.source.Got.{Got}
