@@ -2,5 +2,7 @@
 #![tactic(auto)]
 
 pub mod packet;
+pub mod reading;
 
 pub use packet::{Header, Packet, PacketFault};
+pub use reading::{read_block, read_header, read_packet, skip_body};
