@@ -1,3 +1,4 @@
 pub mod Ends
 pub mod Exchange
 pub mod Pipe
+pub mod Turns

@@ -2,5 +2,6 @@
 #![tactic(auto)]
 
 pub mod ends;
+mod pipe;
 
 pub use ends::{BadPacket, Brief, BriefList, RunEnd, RunFault, fault_text};
