@@ -7,4 +7,4 @@ pub mod variables;
 
 pub use bytes::{Bytes, Memory};
 pub use lists::{BytesList, NumberList};
-pub use variables::Pair;
+pub use variables::{Pair, Vars};
