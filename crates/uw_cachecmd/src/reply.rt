@@ -51,7 +51,7 @@ fn text(alloc: Global, answer: &Answer) -> Result<Bytes, Memory>
     ensures { IfOk result (λ reply. reply ≡ answer_text answer.now) }
 {
     match answer {
-        Answer::Value(value) => joined(alloc, b"value\n", value.as_slice()),
+        Answer::Value(value) => Bytes::joined(alloc, b"value\n", value.as_slice()),
         Answer::Missing => Bytes::from_slice(alloc, b"missing"),
         Answer::Done => Bytes::from_slice(alloc, b"ok"),
         Answer::Exists => Bytes::from_slice(alloc, b"exists"),
@@ -68,21 +68,11 @@ fn text(alloc: Global, answer: &Answer) -> Result<Bytes, Memory>
     }
 }
 
-// Two texts, the one behind the other.
-fn joined(alloc: Global, front: &[u8], back: &[u8]) -> Result<Bytes, Memory>
-    ensures { IfOk result (λ reply. reply ≡ front.now ++ back.now) }
-{
-    let mut reply = Vec::with_capacity(alloc, front.len().saturating_add(back.len()))?;
-    reply.extend_from_slice(front)?;
-    reply.extend_from_slice(back)?;
-    Ok(Bytes::from_vec(reply))
-}
-
 fn number_text(alloc: Global, number: i64) -> Result<Bytes, Memory>
     ensures { IfOk result (λ reply. reply ≡ codes "number " ++ signed_decimal number) }
 {
     let mut buffer = Buffer::new();
-    joined(alloc, b"number ", buffer.format(number).as_bytes())
+    Bytes::joined(alloc, b"number ", buffer.format(number).as_bytes())
 }
 
 // Each key behind the lower two bytes of its length.

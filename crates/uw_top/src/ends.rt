@@ -38,6 +38,16 @@ pub enum RunFault {
     TooMany,
 }
 
+impl From<Memory> for RunFault {
+    ghost use Rattle.uw_top.specs.declared.ends.RunFault.TheVariants as faults;
+
+    ghost from_gives = { λ _ fault. fault ≡ faults.Memory };
+
+    fn from(_: Memory) -> RunFault {
+        RunFault::Memory
+    }
+}
+
 /// A packet that was answered: its moment, and whether its call is in the history where its worker died.
 #[derive(Clone, Copy, Debug, PartialEq, Eq)]
 pub struct Brief {

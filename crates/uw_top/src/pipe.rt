@@ -1,11 +1,16 @@
 // The machine of `pipe`.
-ghost use Rattle.std.specs.Prelude.{◌≡◌, ◌≤◌, Option};
-ghost use Rattle.uw_top.specs.Exchange.{refusal_of};
-ghost use Rattle.uw_top.specs.Turns.{TakesPacket, fault_of};
+ghost use Rattle.std.specs.Prelude.{◌≡◌, ◌≤◌, ◌∷◌, [], length, Option, None, IfOk, IfErr};
+ghost use Rattle.uw_top.specs.declared.ends.RunFault.TheVariants as faults;
+ghost use Rattle.uw_top.specs.Exchange.{frame, refusal_of};
+ghost use Rattle.uw_top.specs.Turns.{AnswersPacket, LooksFurther, TakesPacket, Turns, fault_of};
 
-use crate::{BadPacket, RunFault};
+use crate::{BadPacket, Brief, RunFault};
+use byteorder::{ByteOrder, LittleEndian};
 use std::alloc::Global;
-use uw_outside::Source;
+use uw_base::{Bytes, BytesList, Memory};
+use uw_cachecmd::{CmdFault, cache_reply, command, fault_reply};
+use uw_model::{Ask, ListCache};
+use uw_outside::{Clock, Filled, Sink, Source, fill, put_all};
 use uw_packet::{Header, Packet, PacketFault, read_block, read_header};
 
 /// The largest block, in bytes.
@@ -65,5 +70,107 @@ fn run_fault(fault: PacketFault) -> RunFault
         PacketFault::BadBlock { at } => RunFault::BadPacket(BadPacket::BadBlock { at }),
         PacketFault::ReadFault => RunFault::ReadFault,
         PacketFault::Memory => RunFault::Memory,
+    }
+}
+
+/// What stays from packet to packet: the cache, its name as the list of names, and a brief for each packet answered.
+pub struct Pipe {
+    pub cache: ListCache,
+    pub names: BytesList,
+    pub briefs: Vec<Brief>,
+}
+
+// The frame that answers a packet.
+fn answer(
+    alloc: Global,
+    cache: &mut ListCache,
+    names: &BytesList,
+    moment: u64,
+    packet: &Packet,
+) -> Result<Bytes, RunFault>
+    requires names { names.now ≡ cache.old.conf.name ∷ [] }
+    requires accepted { refusal_of packet.now.head ≡ None }
+    requires size { length packet.now.block ≡ packet.now.head.size }
+    ensures answer { AnswersPacket cache.old.conf cache.old.list cache.new.list
+        (record { moment = moment; head = packet.now.head; block = packet.now.block }) result }
+    ensures conf { cache.new.conf ≡ cache.old.conf }
+{
+    let m2 = packet.head.m2;
+    let reply = match command(alloc, m2, packet.block.as_slice(), names) {
+        Ok(Ask::Cache { call, .. }) => {
+            let answer = cache.call(alloc, moment, &call)?;
+            cache_reply(alloc, m2, &answer)?
+        }
+        Err(CmdFault::BadBlock { at }) => {
+            return Err(RunFault::BadPacket(BadPacket::BadBlock { at }));
+        }
+        Err(CmdFault::Memory) => return Err(RunFault::Memory),
+        Err(fault) => fault_reply(alloc, m2, &fault)?,
+    };
+    frame(alloc, &reply)
+}
+
+// A reply behind its length modulo 2^32 in four bytes.
+fn frame(alloc: Global, reply: &Bytes) -> Result<Bytes, RunFault>
+    ensures frame { IfOk result (λ b. b ≡ frame reply.now) }
+    ensures memory { IfErr result (λ e. e ≡ faults.Memory) }
+{
+    let mut length = [0; 4];
+    LittleEndian::write_u32(&mut length, (reply.len() % (1 << 32)) as u32);
+    Ok(Bytes::joined(alloc, &length, reply.as_slice())?)
+}
+
+/// Serves the next packet: true where it was answered, false where the source is at its end.
+pub fn turn<S: Source, K: Sink, C: Clock>(
+    alloc: Global,
+    pipe: &mut Pipe,
+    src: &mut S,
+    snk: &mut K,
+    clock: &mut C,
+) -> Result<bool, RunFault>
+    requires names { pipe.old.names ≡ pipe.old.cache.conf.name ∷ [] }
+    ensures turn { Turns pipe.old.cache.conf pipe.old.cache.list pipe.new.cache.list pipe.old.briefs.items pipe.new.briefs.items
+        (record { before = S.left src.old; now = S.left src.new; ended = S.ended src.new; faults_before = S.faults src.old; faults_now = S.faults src.new })
+        (K.taken snk.old) (K.taken snk.new) (K.faults snk.old) (K.faults snk.new) (C.gave clock.old clock.new) result }
+    ensures conf { pipe.new.cache.conf ≡ pipe.old.cache.conf }
+    ensures names { pipe.new.names ≡ pipe.old.names }
+    ensures src { S.faults src.old ≤ S.faults src.new }
+    ensures snk { K.faults snk.old ≤ K.faults snk.new }
+{
+    let moment = clock.now();
+    if pipe.briefs.reserve(1).is_err() {
+        return Err(RunFault::Memory);
+    }
+    let packet = match take_packet(alloc, src) {
+        Ok(Some(packet)) => packet,
+        Ok(None) => return Ok(false),
+        Err(fault) => return Err(fault),
+    };
+    let frame = match answer(alloc, &mut pipe.cache, &pipe.names, moment, &packet) {
+        Ok(frame) => frame,
+        Err(fault) => return Err(fault),
+    };
+    match put_all(snk, frame.as_slice()) {
+        Ok(()) => {}
+        Err(_) => return Err(RunFault::WriteFault),
+    }
+    pipe.briefs.push_reserved(Brief { moment, died: None });
+    Ok(true)
+}
+
+/// Looks for one further byte, behind the last packet that a run may have.
+pub fn look_further<S: Source>(src: &mut S) -> Option<RunFault>
+    ensures further { LooksFurther (record {
+      before = S.left src.old;
+      now = S.left src.new;
+      ended = S.ended src.new;
+      faults_before = S.faults src.old;
+      faults_now = S.faults src.new;
+    }) result }
+{
+    match fill(src, &mut [0]) {
+        Filled::Whole => Some(RunFault::TooMany),
+        Filled::Short(_) => None,
+        Filled::Failed(_) => Some(RunFault::ReadFault),
     }
 }
