@@ -1,5 +1,8 @@
 // Packets, and what may be wrong with one.
-use uw_base::Bytes;
+ghost use Rattle.std.specs.Prelude.{◌≡◌};
+ghost use Rattle.uw_packet.specs.declared.packet.PacketFault.TheVariants as faults;
+
+use uw_base::{Bytes, Memory};
 
 /// The header of a packet, four bytes: modifier1, the block's size in two bytes, the lower first, and modifier2.
 #[derive(Clone, Copy, Debug, PartialEq, Eq)]
@@ -30,4 +33,12 @@ pub enum PacketFault {
     ReadFault,
     /// No memory was left.
     Memory,
+}
+
+impl From<Memory> for PacketFault {
+    ghost from_gives = { λ _ fault. fault ≡ faults.Memory };
+
+    fn from(_: Memory) -> PacketFault {
+        PacketFault::Memory
+    }
 }
