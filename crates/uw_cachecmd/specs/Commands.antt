@@ -7,19 +7,18 @@ use Rattle.uw_model.specs.declared.asks.Ask.{Ask}
 use Rattle.uw_model.specs.declared.calls.Call.{Call}
 use Rattle.uw_model.specs.declared.asks.Ask.TheVariants as asks
 use Rattle.uw_model.specs.declared.calls.Call.TheVariants as calls
-use Rattle.uw_cachecmd.specs.declared.command.CmdFault.{CmdFault}
-use Rattle.uw_cachecmd.specs.declared.command.CmdFault.TheVariants as faults
+use Rattle.uw_cachecmd.specs.declared.commands.CmdFault.{CmdFault}
+use Rattle.uw_cachecmd.specs.declared.commands.CmdFault.TheVariants as faults
 
 -- the number of the cache of a name: the first one of that name, or the first configured one where the name is empty
 abbrev pub cache_of : List (List ℕ) → List ℕ → Option ℕ
-cache_of [] [] = None
-cache_of (first ∷ names) [] = Some 0
-cache_of names (byte ∷ name) = position (λ other. bytes_eq other (byte ∷ name)) names
+cache_of names name =
+    if length name == 0 then (if length names == 0 then None else Some 0)
+    else position (λ other. bytes_eq other name) names
 
 -- the seconds that a text gives: 0 where it is empty
 abbrev pub seconds_of : List ℕ → Option ℕ
-seconds_of [] = Some 0
-seconds_of (byte ∷ text) = decimal_of (byte ∷ text)
+seconds_of text = if length text == 0 then Some 0 else decimal_of text
 
 -- a call of the cache, if there is one
 abbrev pub asked : Option ℕ → Call → Result Ask CmdFault

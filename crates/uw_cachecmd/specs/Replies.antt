@@ -4,8 +4,8 @@ use Rattle.std.specs.Fmt.{signed_decimal}
 use Rattle.uw_packet.specs.Blocks.{array_of}
 use Rattle.uw_model.specs.declared.calls.Answer.{Answer}
 use Rattle.uw_model.specs.declared.calls.Answer.TheVariants as answers
-use Rattle.uw_cachecmd.specs.declared.command.CmdFault.{CmdFault}
-use Rattle.uw_cachecmd.specs.declared.command.CmdFault.TheVariants as faults
+use Rattle.uw_cachecmd.specs.declared.commands.CmdFault.{CmdFault}
+use Rattle.uw_cachecmd.specs.declared.commands.CmdFault.TheVariants as faults
 
 -- the text of an answer
 abbrev pub answer_text : Answer → List ℕ

@@ -8,8 +8,8 @@ use Rattle.uw_model.specs.declared.entries.Entry.{Entry}
 use Rattle.uw_model.specs.declared.asks.Ask.{Ask}
 use Rattle.uw_model.specs.declared.asks.Ask.TheVariants as asks
 use Rattle.uw_model.specs.Calls.{answer, next_state}
-use Rattle.uw_cachecmd.specs.declared.command.CmdFault.{CmdFault}
-use Rattle.uw_cachecmd.specs.declared.command.CmdFault.TheVariants as commands
+use Rattle.uw_cachecmd.specs.declared.commands.CmdFault.{CmdFault}
+use Rattle.uw_cachecmd.specs.declared.commands.CmdFault.TheVariants as commands
 use Rattle.uw_cachecmd.specs.Commands.{ask_of}
 use Rattle.uw_cachecmd.specs.Replies.{reply_text, fault_text}
 use Rattle.uw_top.specs.declared.ends.BadPacket.{BadPacket}
