@@ -5,8 +5,14 @@ pub mod asks;
 pub mod calls;
 pub mod conf;
 pub mod entries;
+mod keys;
+mod list_cache;
+mod placement;
+mod sizes;
+mod steps;
 
 pub use asks::Ask;
 pub use calls::{Answer, Call};
 pub use conf::CacheConf;
 pub use entries::Entry;
+pub use list_cache::ListCache;

@@ -1,0 +1,19 @@
+-- Up to the end of the entry in the way no run is free; and with no entry in the way the place is free.
+use Rattle.std.proofs.Common.{not, sym, ap, ◌∙◌, arith}
+use Rattle.std.specs.List.{list_all}
+use Rattle.std.proofs.lemmas.List.{take_all}
+use Rattle.uw_model.specs.Counted.{is_in_the_way}
+use Rattle.uw_model.proofs.CountedLemmas.{end_blocks, free_of}
+use Rattle.uw_model.proofs.placement.end_in_the_way.Goals as goal
+
+pub returns-then-is_in_the_way : goal.returns-then-is_in_the_way
+returns-then-is_in_the_way c =
+    let conf = c.args.conf.now in
+    let ends = c.end_of.ensures.end in
+    rw ends (end_blocks conf c.args.at c.args.n c.args.place c.args.entries.now c.loop-entry.entry-index c.entry-item.result c.loop-entry-test.true c.entry-item.is (sym c.is_in_the_way.ensures ∙ c.if-is_in_the_way.true) (rw ends at c.end_of.ensures.within))
+
+pub returns : goal.returns
+returns c =
+    let conf = c.args.conf.now in
+    let all = take_all c.loop-entry.entry-index c.args.entries.now c.loop-entry-test.false in
+    free_of conf c.args.at c.args.entries.now c.args.n c.args.place ∙ (rw all at c.loop-entry.invariant)
