@@ -1,5 +1,6 @@
 -- What a packet of modifier1 111 asks of a cache, or why it asks nothing (own rule).
-use Rattle.std.specs.Prelude.{ℕ, ◌==◌, ◌+◌, ◌<◌, nat_lt, Bool, if◌then◌else◌, List, [], ◌∷◌, length, take, position, slice_index_or, Option, None, Some, Result, Ok, Err}
+use Rattle.std.specs.Prelude.{ℕ, ◌==◌, ◌+◌, ◌<◌, nat_lt, Bool, if◌then◌else◌, List, [], ◌∷◌, length, take, slice_index_or, Option, None, Some, Result, Ok, Err}
+use Rattle.std.specs.List.{position_from}
 use Rattle.std.specs.Str.{bytes_eq}
 use Rattle.uw_base.specs.Numbers.{decimal_of}
 use Rattle.uw_packet.specs.Blocks.{array_read, array_of}
@@ -14,7 +15,7 @@ use Rattle.uw_cachecmd.specs.declared.commands.CmdFault.TheVariants as faults
 abbrev pub cache_of : List (List ℕ) → List ℕ → Option ℕ
 cache_of names name =
     if length name == 0 then (if length names == 0 then None else Some 0)
-    else position (λ other. bytes_eq other name) names
+    else position_from (λ other. bytes_eq other name) 0 names
 
 -- the seconds that a text gives: 0 where it is empty
 abbrev pub seconds_of : List ℕ → Option ℕ

@@ -1,5 +1,6 @@
 // A block as a command.
-ghost use Rattle.std.specs.Prelude.{◌≡◌, ◌⊎◌, ◌<◌, ◌^◌, ℕ, [], List, length, position, slice_index_or, take, Option};
+ghost use Rattle.std.specs.Prelude.{◌≡◌, ◌⊎◌, ◌<◌, ◌^◌, ℕ, [], List, length, slice_index_or, take, Option};
+ghost use Rattle.std.specs.List.{position_from};
 ghost use Rattle.std.specs.Str.{bytes_eq};
 ghost use Rattle.uw_model.specs.declared.calls.Call.TheVariants as calls;
 ghost use Rattle.uw_packet.specs.Blocks.{array_of, array_read};
@@ -137,12 +138,14 @@ fn cache_named(names: &[Bytes], name: &[u8]) -> Option<u32>
 // The place of a name among names.
 fn place_of(names: &[Bytes], name: &[u8]) -> Option<u32>
     requires { length names.now < 2 ^ 32 }
-    ensures { result ≡ position (λ other. bytes_eq other name.now) names.now }
+    ensures { result ≡ position_from (λ other. bytes_eq other name.now) 0 names.now }
 {
-    match names.iter().position(|other| other.as_slice() == name) {
-        Some(place) => Some(place as u32),
-        None => None,
+    for (place, other) in names.iter().enumerate() {
+        if other.as_slice() == name {
+            return Some(place as u32);
+        }
     }
+    None
 }
 
 // The seconds that a text gives.
