@@ -1,23 +1,19 @@
 use Rattle.std.proofs.Common.{◌≡◌, ◌+◌, ◌-◌, List, ◌++◌, ℕ, length, take, drop, ap, ◌∙◌, sym, arith, length-drop}
 use Rattle.std.proofs.Math.Seq.{take-add}
-use Rattle.std.proofs.lemmas.List.{take_all}
+use Rattle.std.proofs.lemmas.List.{take_rest}
 use Rattle.uw_outside.proofs.Streams.{Gives-append}
 use Rattle.uw_outside.proofs.sink.put_all.Goals as goal
 
--- what is left of a piece is all that was not yet given
-rest_of_piece : (count : ℕ) (piece : List ℕ) → take (length piece - count) (drop count piece) ≡ drop count piece
-rest_of_piece count piece = take_all (length piece - count) (drop count piece) (simp length-drop (omega arith))
-
 -- what was given and what this write took are the piece up to there
 take-more : (count more : ℕ) (piece : List ℕ) → take count piece ++ take more (take (length piece - count) (drop count piece)) ≡ take (count + more) piece
-take-more count more piece = ap (λ rest. take count piece ++ take more rest) (rest_of_piece count piece) ∙ sym (take-add count more piece)
+take-more count more piece = ap (λ rest. take count piece ++ take more rest) (take_rest piece count) ∙ sym (take-add count more piece)
 
 pub loop-count-preserved : goal.loop-count-preserved
 loop-count-preserved g c =
     let piece = c.args.piece.now in
     let count = c.loop-count.count in
     let took = c.in-Count.ensures.bytes in
-    let rest : length (take (length piece - count) (drop count piece)) ≡ length piece - count = ap length (rest_of_piece count piece) ∙ length-drop count piece in
+    let rest : length (take (length piece - count) (drop count piece)) ≡ length piece - count = ap length (take_rest piece count) ∙ length-drop count piece in
     let given = Gives-append _ _ _ _ _ c.loop-count.invariant.given took.2 in
     record {
       within = omega (arith, took.1, rest);
