@@ -64,14 +64,26 @@ impl Model for BytesOut {
 
     ghost Value = { Outgoing };
 
-    ghost view = { λ s. record { taken = s.taken.items; room = vec_capacity s.taken; fails = s.fails.items; writes = s.writes; faults = s.faults } };
+    ghost view = { λ s. record {
+      taken = s.taken.items;
+      room = vec_capacity s.taken;
+      fails = s.fails.items;
+      writes = s.writes;
+      faults = s.faults;
+    } };
 }
 
 impl BytesOut {
     /// The sink that has taken the bytes of `out` at first, whose writes at the places in `fails`, counted from 1, fail.
     /// A write for which there is no memory fails too. Takes no memory.
     pub fn new(out: Vec<u8>, fails: Vec<u64>) -> BytesOut
-        ensures { result ≡ record { taken = out.items; room = vec_capacity out; fails = fails.items; writes = 0; faults = 0 } }
+        ensures { result ≡ record {
+          taken = out.items;
+          room = vec_capacity out;
+          fails = fails.items;
+          writes = 0;
+          faults = 0;
+        } }
     {
         BytesOut {
             taken: out,
@@ -101,13 +113,15 @@ impl Sink for BytesOut {
 
         // The listed writes fail. Another one fails only where it had to ask for memory.
         ensures listed { IsListed self.old.fails self.old.writes → result ≡ Put.Failed }
-        ensures memory { result ≡ Put.Failed → (IsListed self.old.fails self.old.writes ⊎ (self.old.room < length self.old.taken + length piece.now)) }
+        ensures memory { result ≡ Put.Failed → (IsListed self.old.fails self.old.writes
+            ⊎ (self.old.room < length self.old.taken + length piece.now)) }
         ensures all { TakesAll piece.now result }
         ensures room { self.old.room ≤ self.new.room }
 
         // The counts and the list.
         ensures counted { self.new.writes ≡ next_count self.old.writes }
-        ensures faults { self.new.faults ≡ (if has_failed result then next_count self.old.faults else self.old.faults) }
+        ensures faults { self.new.faults
+            ≡ (if has_failed result then next_count self.old.faults else self.old.faults) }
         ensures fails { self.new.fails ≡ self.old.fails }
     {
         let listed = count_call(&mut self.writes, &self.fails);

@@ -83,16 +83,29 @@ impl Model for BytesIn {
 
     ghost Value = { Incoming };
 
-    ghost view = { λ s. record { left = drop s.given s.bytes.items; fails = s.fails.items; reads = s.reads; ended = s.ended; faults = s.faults } };
+    ghost view = { λ s. record {
+      left = drop s.given s.bytes.items;
+      fails = s.fails.items;
+      reads = s.reads;
+      ended = s.ended;
+      faults = s.faults;
+    } };
 
-    ghost invariant = { λ s. (s.given ≤ vec_len s.bytes) × (s.ended ≡ true → vec_len s.bytes ≤ s.given) };
+    ghost invariant = { λ s. (s.given ≤ vec_len s.bytes)
+        × (s.ended ≡ true → vec_len s.bytes ≤ s.given) };
 }
 
 impl BytesIn {
     /// The source of these bytes, whose reads at the places in `fails`, counted from 1, fail.
     /// A read after one that answered the end answers the end, listed or not. Takes no memory.
     pub fn new(bytes: Vec<u8>, fails: Vec<u64>) -> BytesIn
-        ensures { result ≡ record { left = bytes.items; fails = fails.items; reads = 0; ended = false; faults = 0 } }
+        ensures { result ≡ record {
+          left = bytes.items;
+          fails = fails.items;
+          reads = 0;
+          ended = false;
+          faults = 0;
+        } }
     {
         BytesIn {
             bytes,
@@ -119,13 +132,15 @@ impl Source for BytesIn {
         ensures cause { HasCause self.old.faults self.new.faults (is_failed result) }
 
         // Just the listed reads fail, and a read gives what fits.
-        ensures listed { (result ≡ Got.Failed) ↔ ((self.old.ended ≡ false) × IsListed self.old.fails self.old.reads) }
+        ensures listed { (result ≡ Got.Failed)
+            ↔ ((self.old.ended ≡ false) × IsListed self.old.fails self.old.reads) }
         ensures most { GivesMost self.old.left buf.old result }
         ensures buffer { buf.new ≡ overwritten self.old.left buf.old result }
 
         // The counts and the list.
         ensures counted { self.new.reads ≡ next_count self.old.reads }
-        ensures faults { self.new.faults ≡ (if is_failed result then next_count self.old.faults else self.old.faults) }
+        ensures faults { self.new.faults
+            ≡ (if is_failed result then next_count self.old.faults else self.old.faults) }
         ensures fails { self.new.fails ≡ self.old.fails }
     {
         let listed = count_call(&mut self.reads, &self.fails);

@@ -1,10 +1,9 @@
 -- Texts at the front of bytes: how they are read one after the other, and what the texts of a block are.
-use Rattle.std.proofs.Common.{◌≡◌, ℕ, zero, suc, ◌+◌, ◌*◌, ◌-◌, ◌<◌, ◌≤◌, Bool, true, false, cond, leb, List, [], ◌∷◌, ◌++◌, length, take, drop, Option, Some, None, Result, Ok, Err, refl, sym, ap, subst, ◌∙◌, append_assoc, arith, length-append, length-drop}
-use Rattle.std.specs.List.{AllByRecursion}
+use Rattle.std.proofs.Common.{◌≡◌, ℕ, zero, suc, ◌+◌, ◌*◌, ◌-◌, ◌<◌, ◌≤◌, Bool, true, false, cond, leb, List, [], ◌∷◌, ◌++◌, length, take, drop, Some, None, Ok, Err, refl, sym, ap, ◌∙◌, append_assoc, arith, length-drop}
 use Rattle.std.proofs.lemmas.Bool.{lt-leb}
-use Rattle.std.proofs.lemmas.List.{append-nil, length-take-le, take-append-drop, take_at, drop_at}
+use Rattle.std.proofs.lemmas.List.{append-nil}
 use Rattle.uw_base.specs.declared.variables.Pair.{Pair}
-use Rattle.uw_packet.specs.Blocks.{sized, array_of, AreShort, texts_of_pairs, IsArrayBlock, BreaksAt, texts_front, array_read, pairs_of_texts, vars_read}
+use Rattle.uw_packet.specs.Blocks.{texts_of_pairs, texts_front, array_read, pairs_of_texts, vars_read}
 use Rattle.uw_packet.specs.BlockReads.{first_text}
 
 -- how many bytes the first text has, as its two bytes of length say
@@ -32,11 +31,11 @@ texts_front-same (suc m) (suc n) (low ∷ high ∷ bytes) a b =
     ap (λ (r : List (List ℕ) × List ℕ). cond (leb (text_length low high) (length bytes)) (take (text_length low high) bytes ∷ r.0, r.1) ([], low ∷ high ∷ bytes)) same
 
 -- an option that is none where a test fails
-chosen_some : {A : Type 0} (b : Bool) (x y : A) → cond b (Some x) None ≡ Some y → (b ≡ true) × (x ≡ y)
+pub chosen_some : {A : Type 0} (b : Bool) (x y : A) → cond b (Some x) None ≡ Some y → (b ≡ true) × (x ≡ y)
 chosen_some true x y e = (refl, cc)
 chosen_some false x y e = absurd cc
 
-chosen_none : {A : Type 0} (b : Bool) (x : A) → cond b (Some x) None ≡ None → b ≡ false
+pub chosen_none : {A : Type 0} (b : Bool) (x : A) → cond b (Some x) None ≡ None → b ≡ false
 chosen_none true x e = absurd cc
 chosen_none false x e = refl
 

@@ -1,10 +1,14 @@
 -- What a call over a block answers, by what the block holds.
-use Rattle.std.specs.Prelude.{◌≡◌, ℕ, ◌+◌, ◌*◌, ◌-◌, nat_le, nat_lt, ◌&&◌, if◌then◌else◌, List, [], ◌∷◌, length, take, drop, Option, None, Some, Result, Ok, Err}
-use Rattle.std.specs.List.{list_all}
+use Rattle.std.specs.Prelude.{◌≡◌, ℕ, ◌<◌, ◌+◌, ◌*◌, nat_le, nat_lt, ◌&&◌, if◌then◌else◌, List, [], ◌∷◌, length, take, drop, Option, None, Some, Result, Ok, Err}
+use Rattle.std.specs.List.{list_all, AllByRecursion}
 use Rattle.uw_base.specs.declared.variables.Pair.{Pair}
 use Rattle.uw_packet.specs.Blocks.{array_of, texts_of_pairs}
 use Rattle.uw_packet.specs.declared.packet.PacketFault.{PacketFault}
 use Rattle.uw_packet.specs.declared.packet.PacketFault.TheVariants as faults
+
+-- numbers that bytes can hold
+abbrev pub AreBytes : List ℕ → Type 0
+AreBytes bytes = AllByRecursion (λ byte. byte < 256) bytes
 
 -- the first sized text of the bytes and what is behind it, where it is whole
 abbrev pub first_text : List ℕ → Option (List ℕ × List ℕ)

@@ -2,6 +2,7 @@
 #![tactic(auto)]
 
 pub mod blocks;
+pub mod laws;
 pub mod packet;
 pub mod reading;
 

@@ -1,8 +1,8 @@
-use Rattle.std.proofs.Common.{◌≡◌, ◌-◌, ◌<◌, ◌≤◌, List, [], ◌∷◌, ◌++◌, ℕ, length, refl, sym, ap, ◌∙◌, arith}
+use Rattle.std.proofs.Common.{◌≡◌, ◌<◌, [], length, refl, sym, ◌∙◌, arith}
 use Rattle.std.proofs.lemmas.List.{nil_from_length}
 use Rattle.std.proofs.lemmas.Bool.{eqb-true, eqb-false}
 use Rattle.std.proofs.lemmas.Result.{err_from_is_err_and}
-use Rattle.uw_packet.proofs.Arrays.{array_front, front_goes_on, front_stops, length-first_text, array_read-whole, array_read-broken}
+use Rattle.uw_packet.proofs.Arrays.{front_goes_on, front_stops, length-first_text, array_read-whole, array_read-broken}
 use Rattle.uw_packet.proofs.blocks.read_array.Goals as goal
 
 pub returns-in_err-text : goal.returns-in_err-text

@@ -1,9 +1,9 @@
-use Rattle.std.proofs.Common.{◌≡◌, ◌-◌, ◌<◌, ◌≤◌, List, [], ◌∷◌, ◌++◌, ℕ, length, refl, sym, ap, ◌∙◌, arith}
-use Rattle.std.proofs.lemmas.List.{append-nil, nil_from_length}
+use Rattle.std.proofs.Common.{◌≡◌, ◌<◌, [], ◌∷◌, ◌++◌, length, refl, sym, ◌∙◌, arith}
+use Rattle.std.proofs.lemmas.List.{nil_from_length}
 use Rattle.std.proofs.lemmas.Bool.{eqb-true, eqb-false}
 use Rattle.std.proofs.lemmas.Result.{err_from_is_err_and}
 use Rattle.uw_packet.specs.Blocks.{texts_of_pairs}
-use Rattle.uw_packet.proofs.Arrays.{array_front, front_goes_on, front_stops, length-first_text, pair_goes_on, vars_read-whole, vars_read-broken, vars_read-after_key}
+use Rattle.uw_packet.proofs.Arrays.{front_goes_on, front_stops, length-first_text, pair_goes_on, vars_read-whole, vars_read-broken, vars_read-after_key}
 use Rattle.uw_packet.proofs.blocks.read_vars.Goals as goal
 
 pub returns-in_err-key : goal.returns-in_err-key
