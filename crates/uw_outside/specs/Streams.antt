@@ -57,6 +57,12 @@ filled_count buffer filled.Whole = length buffer
 filled_count buffer (filled.Short n) = n
 filled_count buffer (filled.Failed n) = n
 
+-- a read failed before the buffer was full
+abbrev pub has_broken_off : Filled → Bool
+has_broken_off filled.Whole = false
+has_broken_off (filled.Short n) = false
+has_broken_off (filled.Failed n) = true
+
 -- why a buffer was not filled: the source ended, or a read failed
 abbrev pub FillsBy : List ℕ → Option (List ℕ) → Bool → ℕ → ℕ → Filled → Type 0
 FillsBy buffer left ended before now filled.Whole = Unit {0}

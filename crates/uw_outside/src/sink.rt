@@ -38,6 +38,7 @@ pub fn put_all<K: Sink>(snk: &mut K, piece: &[u8]) -> Result<(), usize>
     ensures part { IfErr result (λ n. (n < length piece.now) × Gives (K.taken snk.old) (K.taken snk.new) (take n piece.now)) }
     ensures cause { OnErr result (Rose (K.faults snk.old) (K.faults snk.new)) }
     ensures later { K.faults snk.old ≤ K.faults snk.new }
+    ensures kept { OnOk result (K.faults snk.new ≡ K.faults snk.old) }
 {
     let mut count = 0;
     while count < piece.len() {

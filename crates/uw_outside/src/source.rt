@@ -1,9 +1,9 @@
 // A source of bytes, and one in memory.
-ghost use Rattle.std.specs.Prelude.{◌≡◌, ◌<◌, ◌≤◌, ◌↔◌, Bool, false, List, ℕ, length, take, drop, ◌++◌, min, Option, Some, if◌then◌else◌};
+ghost use Rattle.std.specs.Prelude.{◌≡◌, ◌<◌, ◌≤◌, ◌↔◌, IsTrue, not, Bool, false, List, ℕ, length, take, drop, ◌++◌, min, Option, Some, if◌then◌else◌};
 ghost use Rattle.uw_outside.specs.Counts.{next_count, IsListed};
 ghost use Rattle.uw_outside.specs.Faults.{HasCause};
 ghost use Rattle.uw_outside.specs.InMemory.{GivesMost, overwritten};
-ghost use Rattle.uw_outside.specs.Streams.{Takes, Reads, Ends, FillsBy, is_failed, filled_count};
+ghost use Rattle.uw_outside.specs.Streams.{Takes, Reads, Ends, FillsBy, is_failed, filled_count, has_broken_off};
 
 use crate::counts::{count_call, count_fault};
 use std::marker::Model;
@@ -53,6 +53,7 @@ pub fn fill<S: Source>(src: &mut S, buf: &mut [u8]) -> Filled
     ensures bytes { Takes (S.left src.old) (S.left src.new) (take (filled_count buf.new result) buf.new) }
     ensures why { FillsBy buf.new (S.left src.new) (S.ended src.new) (S.faults src.old) (S.faults src.new) result }
     ensures later { S.faults src.old ≤ S.faults src.new }
+    ensures kept { IsTrue (not (has_broken_off result)) → S.faults src.new ≡ S.faults src.old }
 {
     let mut count = 0;
     while count < buf.len() {

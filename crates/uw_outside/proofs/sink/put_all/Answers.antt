@@ -1,4 +1,4 @@
-use Rattle.std.proofs.Common.{◌≡◌, ◌+◌, ◌-◌, List, ◌++◌, ℕ, length, take, drop, ap, ◌∙◌, sym, arith, length-drop}
+use Rattle.std.proofs.Common.{refl, ◌≡◌, ◌+◌, ◌-◌, List, ◌++◌, ℕ, length, take, drop, ap, ◌∙◌, sym, arith, length-drop}
 use Rattle.std.proofs.Math.Seq.{take-add}
 use Rattle.std.proofs.lemmas.List.{take_rest}
 use Rattle.uw_outside.proofs.Streams.{Gives-append}
@@ -18,5 +18,5 @@ loop-count-preserved g c =
     record {
       within = omega (arith, took.1, rest);
       given = rw (take-more count c.in-Count.more piece) at given;
-      later = omega arith;
+      kept = c.loop-count.invariant.kept ∙ sym (c.in-Count.ensures.cause.kept refl);
     }

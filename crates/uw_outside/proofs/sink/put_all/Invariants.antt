@@ -1,4 +1,4 @@
-use Rattle.std.proofs.Common.{length, ◌-◌, ◌≤◌, take}
+use Rattle.std.proofs.Common.{length, ◌-◌, ◌≤◌, ◌≡◌, take}
 use Rattle.uw_outside.specs.Streams.{Gives}
 use Rattle.uw_outside.proofs.sink.put_all.Given as goal
 
@@ -7,7 +7,7 @@ invariant-loop-count g l =
     record {
       within : l.count ≤ length l.piece;
       given : Gives (g.K.Sink.taken l.initial.snk) (g.K.Sink.taken l.snk) (take l.count l.piece);
-      later : g.K.Sink.faults l.initial.snk ≤ g.K.Sink.faults l.snk;
+      kept : g.K.Sink.faults l.initial.snk ≡ g.K.Sink.faults l.snk;
     }
 
 abbrev pub decreases-loop-count : goal.decreases-loop-count

@@ -1,4 +1,4 @@
-use Rattle.std.proofs.Common.{◌≡◌, ◌+◌, ◌-◌, ◌≤◌, List, ◌++◌, ℕ, length, take, arith, length-append}
+use Rattle.std.proofs.Common.{refl, ◌≡◌, ◌∙◌, sym, ◌+◌, ◌-◌, ◌≤◌, List, ◌++◌, ℕ, length, take, arith, length-append}
 use Rattle.std.proofs.Math.Seq.{take-append-add}
 use Rattle.std.proofs.lemmas.List.{length-take-le, take-append-le}
 use borrow.Rule.Slice.PartMut.{put_mid, post_of}
@@ -27,5 +27,5 @@ loop-count-preserved g c =
       taken =
           rw (take-put_mid_within c.loop-count.count k c.in-Count.more c.loop-count.buf c.read.new.buf within more)
           (Takes-append _ _ _ _ _ c.loop-count.invariant.taken c.in-Count.ensures.bytes.2);
-      later = omega arith;
+      kept = c.loop-count.invariant.kept ∙ sym (c.in-Count.ensures.cause.kept refl);
     }
