@@ -8,7 +8,7 @@ ghost use Rattle.uw_cachecmd.specs.Answers.{Answers};
 ghost use Rattle.uw_cachecmd.specs.Commands.{ask_of, asked, cache_of, seconds_of, set_of};
 
 use std::alloc::Global;
-use uw_base::{Bytes, BytesList, Memory};
+use uw_base::{Bytes, BytesList, Memory, read_decimal};
 use uw_model::{Ask, Call};
 use uw_packet::{PacketFault, read_array};
 
@@ -152,5 +152,9 @@ fn place_of(names: &[Bytes], name: &[u8]) -> Option<u32>
 fn seconds(text: &[u8]) -> Option<u64>
     ensures { result ≡ seconds_of text.now }
 {
-    if text.is_empty() { Some(0) } else { None }
+    if text.is_empty() {
+        Some(0)
+    } else {
+        read_decimal(text)
+    }
 }
