@@ -154,7 +154,7 @@ run_ends gave gave_more conf held told left middle now taken between taken_now c
 -- all packets of a run were answered, and this much was read behind them
 full : {Clk : Type 0} (gave : Clk → Clk → List ℕ → Type 0)
     (conf : CacheConf) (held : List Entry) (told : List Brief) (left middle now taken taken_now : Option (List ℕ)) (clock mid : Clk)
-    (ended : Bool) (f0 f2 s0 s1 : ℕ) (rest : List ℕ) (fault : Option RunFault) (s : SoFar conf held told left middle taken taken_now (gave clock mid) most_packets)
+    (ended : Bool) (f0 f2 s0 s1 : ℕ) (rest : List ℕ) (fault : Option RunFault) (turns : ℕ) → turns ≡ most_packets → (s : SoFar conf held told left middle taken taken_now (gave clock mid) turns)
     → Takes middle now rest
     → EndsBy conf
     (record {
@@ -168,7 +168,7 @@ full : {Clk : Type 0} (gave : Clk → Clk → List ℕ → Type 0)
       late = [];
     }) fault
     → PipeRun conf (record { before = left; now = now; ended = ended; faults_before = f0; faults_now = f2 }) taken taken_now s0 s1 (gave clock mid) told fault
-full gave conf held told left middle now taken taken_now clock mid ended f0 f2 s0 s1 rest fault s read ending = record {
+full gave conf held told left middle now taken taken_now clock mid ended f0 f2 s0 s1 rest fault turns all s read ending = record {
   packets = s.packets;
   rest = rest;
   part = [];
@@ -189,22 +189,69 @@ asked_no_more count asked none whole = grind (arith, nat_tests)
 -- all packets of a run were answered, and one further byte was looked for
 pub run_is_full : {Clk : Type 0} (gave : Clk → Clk → List ℕ → Type 0)
     (conf : CacheConf) (held : List Entry) (told : List Brief) (left middle now taken taken_now : Option (List ℕ)) (clock mid : Clk)
-    (ended : Bool) (f0 f1 f2 s0 s1 : ℕ) (fault : Option RunFault)
-    → f0 ≤ f1
-    → SoFar conf held told left middle taken taken_now (gave clock mid) most_packets
+    (ended : Bool) (f0 f1 f2 s0 s1 : ℕ) (fault : Option RunFault) (turns : ℕ)
+    → f0 ≤ f1 → turns ≡ most_packets
+    → SoFar conf held told left middle taken taken_now (gave clock mid) turns
     → LooksFurther (record { before = middle; now = now; ended = ended; faults_before = f1; faults_now = f2 }) fault
     → PipeRun conf (record { before = left; now = now; ended = ended; faults_before = f0; faults_now = f2 }) taken taken_now s0 s1 (gave clock mid) told fault
-run_is_full gave conf held told left middle now taken taken_now clock mid ended f0 f1 f2 s0 s1 None lf s t =
-    full gave conf held told left middle now taken taken_now clock mid ended f0 f2 s0 s1 [] None s t.0
-    (refl, refl, t.1, asked_no_more (length s.packets) 0 refl s.count)
-run_is_full gave conf held told left middle now taken taken_now clock mid ended f0 f1 f2 s0 s1 (Some faults.TooMany) lf s t =
-    full gave conf held told left middle now taken taken_now clock mid ended f0 f2 s0 s1 (t.0 ∷ []) (Some faults.TooMany) s t.1
-    (s.count, refl, refl, refl)
-run_is_full gave conf held told left middle now taken taken_now clock mid ended f0 f1 f2 s0 s1 (Some faults.ReadFault) lf s t =
-    full gave conf held told left middle now taken taken_now clock mid ended f0 f2 s0 s1 [] (Some faults.ReadFault) s t.0
-    (rose_since f0 f1 f2 lf t.1, refl, asked_no_more (length s.packets) 0 refl s.count)
-run_is_full gave conf held told left middle now taken taken_now clock mid ended f0 f1 f2 s0 s1 (Some faults.Usage) lf s t = absurd t
-run_is_full gave conf held told left middle now taken taken_now clock mid ended f0 f1 f2 s0 s1 (Some faults.WriteFault) lf s t = absurd t
-run_is_full gave conf held told left middle now taken taken_now clock mid ended f0 f1 f2 s0 s1 (Some (faults.Truncated got want)) lf s t = absurd t
-run_is_full gave conf held told left middle now taken taken_now clock mid ended f0 f1 f2 s0 s1 (Some (faults.BadPacket packet)) lf s t = absurd t
-run_is_full gave conf held told left middle now taken taken_now clock mid ended f0 f1 f2 s0 s1 (Some faults.Memory) lf s t = absurd t
+run_is_full gave conf held told left middle now taken taken_now clock mid ended f0 f1 f2 s0 s1 None turns lf all s t =
+    full gave conf held told left middle now taken taken_now clock mid ended f0 f2 s0 s1 [] None turns all s t.0
+    (refl, refl, t.1, asked_no_more (length s.packets) 0 refl (s.count ∙ all))
+run_is_full gave conf held told left middle now taken taken_now clock mid ended f0 f1 f2 s0 s1 (Some faults.TooMany) turns lf all s t =
+    full gave conf held told left middle now taken taken_now clock mid ended f0 f2 s0 s1 (t.0 ∷ []) (Some faults.TooMany) turns all s t.1
+    (s.count ∙ all, refl, refl, refl)
+run_is_full gave conf held told left middle now taken taken_now clock mid ended f0 f1 f2 s0 s1 (Some faults.ReadFault) turns lf all s t =
+    full gave conf held told left middle now taken taken_now clock mid ended f0 f2 s0 s1 [] (Some faults.ReadFault) turns all s t.0
+    (rose_since f0 f1 f2 lf t.1, refl, asked_no_more (length s.packets) 0 refl (s.count ∙ all))
+run_is_full gave conf held told left middle now taken taken_now clock mid ended f0 f1 f2 s0 s1 (Some faults.Usage) turns lf all s t = absurd t
+run_is_full gave conf held told left middle now taken taken_now clock mid ended f0 f1 f2 s0 s1 (Some faults.WriteFault) turns lf all s t = absurd t
+run_is_full gave conf held told left middle now taken taken_now clock mid ended f0 f1 f2 s0 s1 (Some (faults.Truncated got want)) turns lf all s t = absurd t
+run_is_full gave conf held told left middle now taken taken_now clock mid ended f0 f1 f2 s0 s1 (Some (faults.BadPacket packet)) turns lf all s t = absurd t
+run_is_full gave conf held told left middle now taken taken_now clock mid ended f0 f1 f2 s0 s1 (Some faults.Memory) turns lf all s t = absurd t
+
+-- a run that found no memory before its first packet
+pub nothing_done : {Clk : Type 0} (gave : Clk → Clk → List ℕ → Type 0) (gave_none : (clock : Clk) → gave clock clock [])
+    (conf : CacheConf) (left taken : Option (List ℕ)) (clock : Clk) (ended : Bool) (f0 f1 s0 s1 : ℕ)
+    → PipeRun conf (record { before = left; now = left; ended = ended; faults_before = f0; faults_now = f1 }) taken taken s0 s1 (gave clock clock) [] (Some faults.Memory)
+nothing_done gave gave_none conf left taken clock ended f0 f1 s0 s1 = record {
+  packets = [];
+  rest = [];
+  part = [];
+  late = [];
+  answered = tt;
+  few = omega arith;
+  read = Takes-none left;
+  written = Gives-none taken;
+  moments = gave_none clock;
+  briefs = refl;
+  ending = (refl, omega arith);
+}
+
+-- the same, where the turn's configuration and briefs are known by equations
+pub turn_ends : {Clk : Type 0} (gave : Clk → Clk → List ℕ → Type 0)
+    (gave_more : (a b c : Clk) (early late : List ℕ) → gave a b early → gave b c late → gave a c (early ++ late))
+    (conf turned : CacheConf) (held : List Entry) (told told_now : List Brief) (left middle now taken between taken_now : Option (List ℕ)) (clock mid later : Clk)
+    (ended : Bool) (f0 f1 f2 s0 s1 s2 turns : ℕ) (fault : Option RunFault)
+    → f0 ≤ f1 → s0 ≤ s1 → turns < most_packets → turned ≡ conf
+    → SoFar conf held told left middle taken between (gave clock mid) turns
+    → (told_now ≡ told) × Stops turned held (record { before = middle; now = now; ended = ended; faults_before = f1; faults_now = f2 }) between taken_now s1 s2 (gave mid later) fault
+    → PipeRun conf (record { before = left; now = now; ended = ended; faults_before = f0; faults_now = f2 }) taken taken_now s0 s2 (gave clock later) told_now fault
+turn_ends gave gave_more conf turned held told told_now left middle now taken between taken_now clock mid later ended f0 f1 f2 s0 s1 s2 turns fault lf ls few same s t =
+    let stops = subst
+    (λ (c : CacheConf). Stops c held (record { before = middle; now = now; ended = ended; faults_before = f1; faults_now = f2 }) between taken_now s1 s2 (gave mid later) fault)
+    same t.1 in
+    subst (λ (briefs : List Brief). PipeRun conf (record { before = left; now = now; ended = ended; faults_before = f0; faults_now = f2 }) taken taken_now s0 s2 (gave clock later) briefs fault)
+    (sym t.0)
+    (run_ends gave gave_more conf held told left middle now taken between taken_now clock mid later ended f0 f1 f2 s0 s1 s2 turns fault lf ls few s stops)
+
+-- one packet more, where the turn's configuration is known by an equation
+pub turn_goes : {Clk : Type 0} (gave : Clk → Clk → List ℕ → Type 0)
+    (gave_more : (a b c : Clk) (early late : List ℕ) → gave a b early → gave b c late → gave a c (early ++ late))
+    (conf turned : CacheConf) (held after : List Entry) (told told_now : List Brief) (left middle now taken between taken_now : Option (List ℕ)) (clock mid later : Clk)
+    (ended : Bool) (f0 f1 turns : ℕ) → turned ≡ conf
+    → SoFar conf held told left middle taken between (gave clock mid) turns
+    → Goes turned held after told told_now (record { before = middle; now = now; ended = ended; faults_before = f0; faults_now = f1 }) between taken_now (gave mid later)
+    → SoFar conf after told_now left now taken taken_now (gave clock later) (turns + 1)
+turn_goes gave gave_more conf turned held after told told_now left middle now taken between taken_now clock mid later ended f0 f1 turns same s t =
+    one_more gave gave_more conf held after told told_now left middle now taken between taken_now clock mid later ended f0 f1 turns s
+    (subst (λ (c : CacheConf). Goes c held after told told_now (record { before = middle; now = now; ended = ended; faults_before = f0; faults_now = f1 }) between taken_now (gave mid later)) same t)

@@ -81,19 +81,17 @@ impl BriefList {
         }
     }
 
+    /// The list of a vector. Takes no memory.
+    pub fn from_vec(briefs: Vec<Brief>) -> BriefList
+        ensures { result ≡ briefs.items }
+    {
+        BriefList { briefs }
+    }
+
     pub fn as_slice(&self) -> &[Brief]
         ensures { result.now ≡ self.now }
     {
         self.briefs.as_slice()
-    }
-
-    /// Puts one brief at the end.
-    pub fn push(&mut self, brief: Brief) -> Result<(), Memory>
-        ensures ok { OnOk result (self.new ≡ self.old ++ brief ∷ []) }
-        ensures err { OnErr result (self.new ≡ self.old) }
-    {
-        self.briefs.push(brief)?;
-        Ok(())
     }
 }
 

@@ -3,5 +3,7 @@
 
 pub mod ends;
 mod pipe;
+mod runs;
 
 pub use ends::{BadPacket, Brief, BriefList, RunEnd, RunFault, fault_text};
+pub use runs::run;

@@ -74,6 +74,7 @@ fn run_fault(fault: PacketFault) -> RunFault
 }
 
 /// What stays from packet to packet: the cache, its name as the list of names, and a brief for each packet answered.
+#[derive(Drop)]
 pub struct Pipe {
     pub cache: ListCache,
     pub names: BytesList,
