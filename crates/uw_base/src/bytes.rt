@@ -65,6 +65,16 @@ impl Bytes {
         })
     }
 
+    /// Two slices, the one behind the other.
+    pub fn joined(alloc: Global, front: &[u8], back: &[u8]) -> Result<Bytes, Memory>
+        ensures { IfOk result (λ b. b ≡ front.now ++ back.now) }
+    {
+        let mut bytes = Vec::with_capacity(alloc, front.len().saturating_add(back.len()))?;
+        bytes.extend_from_slice(front)?;
+        bytes.extend_from_slice(back)?;
+        Ok(Bytes { bytes })
+    }
+
     pub fn as_slice(&self) -> &[u8]
         ensures { result.now ≡ self.now }
     {

@@ -3,6 +3,10 @@
 
 mod bytes;
 mod lists;
+pub mod numbers;
+pub mod variables;
 
 pub use bytes::{Bytes, Memory};
 pub use lists::{BytesList, NumberList};
+pub use numbers::{djb33x, put_decimal, put_signed, read_decimal, read_signed};
+pub use variables::{Pair, Vars};

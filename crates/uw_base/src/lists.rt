@@ -1,10 +1,9 @@
 // Lists of bytes and of numbers, which contracts see as lists.
 ghost use Rattle.std.specs.Prelude.{◌≡◌, ◌+◌, ◌<◌, List, [], ◌∷◌, ◌++◌, ℕ, length, slice_index_or, IfOk, OnOk, OnErr};
 
+use crate::{Bytes, Memory};
 use std::alloc::Global;
 use std::marker::Model;
-
-use crate::{Bytes, Memory};
 
 /// A list of byte strings. Contracts see it as the list of them.
 #[derive(Drop)]

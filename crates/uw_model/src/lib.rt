@@ -1,6 +1,7 @@
 //! What a cache is: its entries and calls as definitions, and the plain list that answers by them.
 #![tactic(auto)]
 
+pub mod asks;
 pub mod calls;
 pub mod conf;
 pub mod entries;
@@ -11,6 +12,7 @@ mod placement;
 mod sizes;
 mod steps;
 
+pub use asks::Ask;
 pub use calls::{Answer, Call, MathOp};
 pub use conf::CacheConf;
 pub use entries::Entry;

@@ -1,5 +1,5 @@
 -- What a read takes from a source and a write gives to a sink, where these tell what they hold.
-use Rattle.std.specs.Prelude.{◌≡◌, ℕ, ◌<◌, ◌≤◌, Bool, true, false, List, [], ◌++◌, length, take, Option, None, Some, IfSome}
+use Rattle.std.specs.Prelude.{◌≡◌, ℕ, ◌<◌, ◌≤◌, Bool, true, false, List, [], ◌++◌, length, take, Option, IfSome}
 use Rattle.std.specs.Option.{option_map}
 use Rattle.uw_outside.specs.Faults.{Rose}
 use Rattle.uw_outside.specs.declared.source.Got.{Got}
@@ -56,6 +56,12 @@ abbrev pub filled_count : List ℕ → Filled → ℕ
 filled_count buffer filled.Whole = length buffer
 filled_count buffer (filled.Short n) = n
 filled_count buffer (filled.Failed n) = n
+
+-- a read failed before the buffer was full
+abbrev pub has_broken_off : Filled → Bool
+has_broken_off filled.Whole = false
+has_broken_off (filled.Short n) = false
+has_broken_off (filled.Failed n) = true
 
 -- why a buffer was not filled: the source ended, or a read failed
 abbrev pub FillsBy : List ℕ → Option (List ℕ) → Bool → ℕ → ℕ → Filled → Type 0

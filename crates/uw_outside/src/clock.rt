@@ -1,5 +1,8 @@
 // A clock, and one in memory.
-ghost use Rattle.std.specs.Prelude.{◌≡◌, ◌<◌, ◌++◌, List, [], ◌∷◌, ℕ, length};
+ghost use Rattle.std.specs.Prelude.{◌≡◌, ◌<◌, ◌++◌, List, [], ◌∷◌, ℕ, vec_len, refl};
+ghost use Rattle.uw_outside.specs.Moments.{GivesInOrder, GivesInOrder-append};
+
+use std::marker::Model;
 
 /// A clock of seconds since the epoch. It cannot fail, and its moments need not rise.
 pub trait Clock {
@@ -15,4 +18,49 @@ pub trait Clock {
 
     /// What it gave first, and then what it gave after that.
     ghost gave_more: { (a b c : Self) (early late : List ℕ) → gave a b early → gave b c late → gave a c (early ++ late) };
+}
+
+/// A clock that gives listed moments in their order, of which the last one repeats. Contracts see it as the list of
+/// those that it has yet to give.
+#[derive(Drop)]
+pub struct FixedClock {
+    moments: Vec<u64>,
+    // The place of the moment that comes next.
+    place: usize,
+}
+
+impl Model for FixedClock {
+    ghost use Rattle.std.specs.Prelude.{◌<◌, List, ℕ, drop, vec_len};
+
+    ghost Value = { List ℕ };
+
+    ghost view = { λ c. drop c.place c.moments.items };
+
+    ghost invariant = { λ c. c.place < vec_len c.moments };
+}
+
+impl FixedClock {
+    /// The clock of these moments. Takes no memory.
+    pub fn new(moments: Vec<u64>) -> FixedClock
+        requires { 0 < vec_len moments }
+        ensures { result ≡ moments.items }
+    {
+        FixedClock { moments, place: 0 }
+    }
+}
+
+impl Clock for FixedClock {
+    ghost gave = { λ before now moments. GivesInOrder before moments now };
+
+    ghost gave_none = { λ clock. refl };
+
+    ghost gave_more = { GivesInOrder-append };
+
+    fn now(&mut self) -> u64 {
+        let moment = self.moments[self.place];
+        if self.place + 1 < self.moments.len() {
+            self.place += 1;
+        }
+        moment
+    }
 }

@@ -3,9 +3,14 @@
 #![tactic(auto)]
 
 pub mod clock;
+mod counts;
+pub mod real;
 pub mod sink;
 pub mod source;
+#[cfg(test)]
+mod tests;
 
-pub use clock::Clock;
-pub use sink::{Put, Sink, put_all};
-pub use source::{Filled, Got, Source, fill};
+pub use clock::{Clock, FixedClock};
+pub use real::{Reading, SystemClock, Writing};
+pub use sink::{BytesOut, Put, Sink, put_all};
+pub use source::{BytesIn, Filled, Got, Source, fill};

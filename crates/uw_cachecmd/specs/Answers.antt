@@ -1,0 +1,14 @@
+-- A command as the code answers it.
+use Rattle.std.specs.Prelude.{◌≡◌, Result, Ok, Err}
+use Rattle.uw_model.specs.declared.asks.Ask.{Ask}
+use Rattle.uw_cachecmd.specs.declared.commands.CmdFault.{CmdFault}
+use Rattle.uw_cachecmd.specs.declared.commands.CmdFault.TheVariants as faults
+
+-- the defined ask or refusal, unless no memory was left
+abbrev pub Answers : Result Ask CmdFault → Result Ask CmdFault → Type 0
+Answers (Err faults.Memory) defined = Unit {0}
+Answers (Err (faults.BadBlock at)) defined = defined ≡ Err (faults.BadBlock at)
+Answers (Err faults.UnknownCommand) defined = defined ≡ Err faults.UnknownCommand
+Answers (Err faults.UnknownCache) defined = defined ≡ Err faults.UnknownCache
+Answers (Err faults.BadNumber) defined = defined ≡ Err faults.BadNumber
+Answers (Ok ask) defined = defined ≡ Ok ask

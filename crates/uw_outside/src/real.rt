@@ -1,0 +1,144 @@
+// Adapters over a reader, a writer and the clock of the system. They tell no content.
+ghost use Rattle.std.specs.Prelude.{◌≡◌, IfOk, None, false};
+
+use crate::counts::count_fault;
+use crate::{Clock, Got, Put, Sink, Source};
+use std::alloc::Global;
+use std::io::{BufReader, Read, Write};
+use std::marker::Model;
+use std::rt;
+use std::time::{SystemTime, UNIX_EPOCH};
+use uw_base::Memory;
+
+// How many bytes are asked of a reader at once.
+const BUFFER_BYTES: usize = 65_536;
+
+/// A source over any reader of std, which it reads through a buffer of 64 KiB. Once a read of it found no byte it
+/// reads no more, and answers the end. An interrupted read counts as a failed one, since std does not repeat it.
+#[derive(Drop)]
+pub struct Reading<R> {
+    reader: BufReader<R>,
+    ended: bool,
+    faults: u64,
+}
+
+impl<R> Model for Reading<R> {
+    ghost use Rattle.uw_outside.specs.Adapters.{Progress};
+
+    ghost Value = { Progress };
+
+    ghost view = { λ s. record { ended = s.ended; faults = s.faults } };
+}
+
+impl<R: Read + Drop> Reading<R> {
+    /// The source over this reader, which is dropped where there is no memory for the buffer.
+    pub fn new(alloc: Global, reader: R) -> Result<Reading<R>, Memory>
+        ensures { IfOk result (λ s. s ≡ record { ended = false; faults = 0 }) }
+    {
+        match BufReader::with_capacity(alloc, BUFFER_BYTES, reader) {
+            Ok(reader) => Ok(Reading {
+                reader,
+                ended: false,
+                faults: 0,
+            }),
+            Err(_) => Err(Memory),
+        }
+    }
+}
+
+impl<R: Read> Source for Reading<R> {
+    ghost left = { λ _. None };
+
+    ghost ended = { λ s. s.ended };
+
+    ghost faults = { λ s. s.faults };
+
+    fn read(&mut self, buf: &mut [u8]) -> Got {
+        if self.ended {
+            return Got::End;
+        }
+        match self.reader.read(buf) {
+            Ok(0) => {
+                self.ended = true;
+                Got::End
+            }
+            Ok(count) => Got::Count(count),
+            Err(_) => {
+                count_fault(&mut self.faults);
+                Got::Failed
+            }
+        }
+    }
+}
+
+/// A sink over any writer of std, which it calls once for each write. A write that takes no byte counts as failed.
+/// Contracts see it as the count of its failed writes.
+#[derive(Drop)]
+pub struct Writing<W> {
+    writer: W,
+    faults: u64,
+}
+
+impl<W> Model for Writing<W> {
+    ghost use Rattle.std.specs.Prelude.{ℕ};
+
+    ghost Value = { ℕ };
+
+    ghost view = { λ s. s.faults };
+}
+
+impl<W: Write> Writing<W> {
+    /// The sink over this writer. Takes no memory.
+    pub fn new(writer: W) -> Writing<W>
+        ensures { result ≡ 0 }
+    {
+        Writing { writer, faults: 0 }
+    }
+}
+
+impl<W: Write> Sink for Writing<W> {
+    ghost taken = { λ _. None };
+
+    ghost faults = { λ faults. faults };
+
+    fn write(&mut self, piece: &[u8]) -> Put {
+        match self.writer.write(piece) {
+            Ok(0) | Err(_) => {
+                count_fault(&mut self.faults);
+                Put::Failed
+            }
+            Ok(count) => Put::Count(count),
+        }
+    }
+}
+
+/// The clock of the system, in whole seconds since the epoch. Where it cannot be read or stands before the epoch it
+/// gives 0. It does not tell its moments.
+#[derive(Drop)]
+pub struct SystemClock<R> {
+    rt: R,
+}
+
+impl<R: rt::Clock> SystemClock<R> {
+    pub fn new(rt: R) -> SystemClock<R> {
+        SystemClock { rt }
+    }
+}
+
+impl<R: rt::Clock> Clock for SystemClock<R> {
+    ghost gave = { λ _ _ _. Unit {0} };
+
+    ghost gave_none = { λ _. tt };
+
+    ghost gave_more = { λ _ _ _ _ _ _ _. tt };
+
+    fn now(&mut self) -> u64 {
+        match SystemTime::now(&self.rt) {
+            Ok(time) => match time.duration_since(UNIX_EPOCH) {
+                Ok(past) => past.as_secs(),
+                Err(_) => 0,
+            },
+            Err(_) => 0,
+        }
+    }
+}

@@ -1,0 +1,4 @@
+pub mod Packet
+pub mod Blocks
+pub mod Reads
+pub mod BlockReads
