@@ -8,6 +8,7 @@ pub mod entries;
 mod keys;
 pub mod laws;
 mod list_cache;
+mod numbers;
 mod placement;
 mod sizes;
 mod steps;
