@@ -287,13 +287,13 @@ pub fn keys(
 ) -> Result<Answer, Memory>
     ensures { IfOk result (λ a. a ≡ answer conf.now entries.now moment calls.Keys) }
 {
-    let mut keys = BytesList::new(alloc);
+    let mut keys = Vec::new(alloc);
     for entry in entries {
         if is_alive(conf, moment, entry) {
             keys.push(Bytes::from_slice(alloc, entry.key.as_slice())?)?;
         }
     }
-    Ok(Answer::Keys(keys))
+    Ok(Answer::Keys(BytesList::from_vec(keys)))
 }
 
 /// Removes the entries that are not alive, and counts them.

@@ -4,7 +4,7 @@ use Rattle.std.proofs.lemmas.Int.{to_z-of_z}
 use Rattle.uw_model.specs.declared.entries.Entry.{Entry}
 use Rattle.uw_model.specs.declared.calls.Answer.TheVariants as answers
 use Rattle.uw_model.specs.declared.calls.Call.TheVariants as calls
-use Rattle.uw_model.specs.Calls.{Outcome, written, outcome, bytes_of_number}
+use Rattle.uw_model.specs.Calls.{Outcome, written, outcome}
 use Rattle.uw_model.proofs.MathLemmas.{math_outcome}
 use Rattle.uw_model.proofs.steps.math.Goals as goal
 use Rattle.uw_model.proofs.steps.math.Goals.{After-write}

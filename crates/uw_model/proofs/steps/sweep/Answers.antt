@@ -1,5 +1,5 @@
 -- The entries that went are those that are not alive.
-use Rattle.std.proofs.Common.{◌≡◌, ◌+◌, ◌-◌, ◌^◌, ◌<◌, not, length, filter, pos, w64, refl, ap, ◌∙◌, arith}
+use Rattle.std.proofs.Common.{◌≡◌, ◌-◌, not, length, filter, pos, w64, refl, ap, ◌∙◌, arith}
 use Rattle.std.proofs.lemmas.Int.{to_z_pos}
 use Rattle.std.proofs.lemmas.List.Filters.{length-filter_both}
 use Rattle.uw_model.specs.declared.calls.Answer.TheVariants as answers
