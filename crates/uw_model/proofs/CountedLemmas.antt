@@ -1,5 +1,5 @@
 -- The entries that count, as a filter, and what one of them says of the free runs.
-use Rattle.std.proofs.Common.{◌≡◌, ℕ, zero, suc, ◌+◌, ◌<◌, ◌≤◌, Bool, true, false, not, ◌&&◌, cond, nat_le, List, [], ◌∷◌, length, get_or, filter, count_by, Option, None, Some, refl, sym, ap, ◌∙◌, inl, inr, arith}
+use Rattle.std.proofs.Common.{◌≡◌, ℕ, ◌+◌, ◌<◌, ◌≤◌, Bool, true, false, not, ◌&&◌, List, [], ◌∷◌, length, get_or, filter, count_by, Option, None, Some, refl, sym, ap, ◌∙◌, inl, inr, arith}
 use Rattle.std.specs.List.{list_all}
 use Rattle.std.proofs.lemmas.List.Sums.{length-filter}
 use Rattle.std.proofs.lemmas.List.Folds.{list_all_at}
@@ -28,8 +28,9 @@ pub list_all-filter : {X : Type 0} (p q : X → Bool) (xs : List X) → list_all
 list_all-filter p q [] = refl
 list_all-filter p q (x ∷ xs) =
     elim (cases_Bool (q x)) [
-      inl kept ↦ rw kept (ap (λ b. p x && b) (list_all-filter p q xs) ∙ ap (λ b. b && list_all (λ y. not (q y && not (p y))) xs) (sym (not-not (p x))))
-    | inr left ↦ rw left (list_all-filter p q xs) ]
+      | inl kept ↦ rw kept (ap (λ b. p x && b) (list_all-filter p q xs) ∙ ap (λ b. b && list_all (λ y. not (q y && not (p y))) xs) (sym (not-not (p x))))
+      | inr left ↦ rw left (list_all-filter p q xs)
+    ]
 
 pub free_of : (conf : CacheConf) (at : Option ℕ) (list : List Entry) (n place : ℕ) → is_free conf (counted conf at list) n place ≡ list_all (λ e. not (is_in_the_way conf at n place e)) list
 free_of conf at list n place = ap (list_all (is_clear_of conf place n)) (counted-filter conf at list) ∙ list_all-filter (is_clear_of conf place n) (counts conf at) list

@@ -1,5 +1,5 @@
 -- The list without a key, where no entry has it and where one has.
-use Rattle.std.proofs.Common.{◌≡◌, ◌≢◌, ℕ, zero, suc, ◌+◌, ◌-◌, ◌<◌, ◌≤◌, Bool, true, false, not, ◌&&◌, cond, List, [], ◌∷◌, length, get_or, take, drop, filter, remove, Option, Some, None, is_some, MatchOption, refl, sym, ap, ◌∙◌, inl, inr, arith}
+use Rattle.std.proofs.Common.{◌≡◌, ℕ, zero, suc, ◌<◌, Bool, true, false, not, cond, List, [], ◌∷◌, length, get_or, filter, remove, Option, Some, None, is_some, MatchOption, refl, sym, ap, ◌∙◌, arith}
 use Rattle.std.specs.List.{list_all}
 use Rattle.std.specs.Str.{bytes_eq}
 use Rattle.std.proofs.lemmas.Slice.Eq.{bytes_eq-Decides}
@@ -71,7 +71,7 @@ pub used_at : (conf : CacheConf) (list : List Entry) (place : ℕ) (d : Entry) �
 used_at conf list place d own within purges = rw purges (ap (λ l. get_or list place d ∷ l) (sym (without_itself list place d own within)))
 
 -- there is an alive entry where it has a place
-nothing : Entry
+pub nothing : Entry
 nothing = record { key = []; value = []; dies = 0; first = 0 }
 
 pub is_some_place : (conf : CacheConf) (list : List Entry) (now : ℕ) (key : List ℕ) (place : Option ℕ) → MatchOption place (alive_at conf list now key ≡ None) (IsAlivePlace conf list now key) → is_some place ≡ is_some (alive_at conf list now key)

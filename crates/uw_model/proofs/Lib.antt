@@ -5,3 +5,4 @@ pub mod StateLemmas
 pub mod PartLemmas
 pub mod RoomLemmas
 pub mod NextStateLemmas
+pub mod LawLemmas

@@ -1,5 +1,5 @@
 -- The next list of a well-formed one is well-formed.
-use Rattle.std.proofs.Common.{◌≡◌, ◌≢◌, ℕ, zero, suc, ◌+◌, ◌-◌, ◌<◌, ◌≤◌, nat_lt, Bool, true, false, not, ◌&&◌, ◌||◌, ◌⊎◌, cond, List, [], ◌∷◌, length, filter, find, Option, Some, None, is_some, unwrap_or, Result, Ok, Err, OnOk, OnErr, refl, sym, ap, subst, ◌∙◌, inl, inr, arith}
+use Rattle.std.proofs.Common.{◌≡◌, ℕ, suc, ◌+◌, ◌-◌, ◌≤◌, nat_lt, Bool, true, false, not, ◌&&◌, cond, List, [], ◌∷◌, length, filter, find, Option, Some, None, is_some, unwrap_or, Result, Ok, Err, OnOk, OnErr, refl, sym, ap, subst, inl, inr, arith}
 use Rattle.std.specs.List.{list_all}
 use Rattle.std.specs.Str.{bytes_eq}
 use Rattle.std.proofs.lemmas.Slice.Eq.{bytes_eq-Decides}
@@ -12,13 +12,13 @@ use Rattle.uw_model.specs.declared.calls.Call.{Call}
 use Rattle.uw_model.specs.declared.calls.Answer.{Answer}
 use Rattle.uw_model.specs.declared.calls.Call.TheVariants as calls
 use Rattle.uw_model.specs.declared.calls.Answer.TheVariants as answers
-use Rattle.uw_model.specs.Entries.{IsCacheConf, IsEntry, IsApart, IsApartFrom, AreApart, IsState, max_value, span, covers}
-use Rattle.uw_model.specs.Placement.{is_alive, is_clear_of, is_free, first_run, fits, room}
+use Rattle.uw_model.specs.Entries.{IsCacheConf, IsEntry, IsApart, IsApartFrom, AreApart, IsState, max_value, span}
+use Rattle.uw_model.specs.Placement.{is_alive, is_clear_of, is_free, first_run, room}
 use Rattle.uw_model.specs.Calls.{Outcome, refused, is_bad_key, is_too_long, alive_at, without, got, placed, written, next_state, dies_at}
 use Rattle.uw_model.specs.Keys.{lacks}
 use Rattle.uw_model.proofs.KeysLemmas.{filter_whole, same_key}
-use Rattle.uw_model.proofs.PartLemmas.{IsPart, part_filter, part_length, part_all, part_apart, part_apart_from, part_state}
-use Rattle.uw_model.proofs.PlacementLemmas.{IsLeast, least_place_is}
+use Rattle.uw_model.proofs.PartLemmas.{part_filter, part_all, part_apart}
+use Rattle.uw_model.proofs.PlacementLemmas.{least_place_is}
 use Rattle.uw_model.proofs.RoomLemmas.{IsRoom, room_is, span_within, empty_fits, cases_choice}
 use Rattle.uw_model.proofs.StateLemmas.{lacks_apart}
 
@@ -32,8 +32,9 @@ found_apart : (conf : CacheConf) (o : Entry) (test : Entry → Bool) (list : Lis
 found_apart conf o test [] e found apart = absurd (none-some e found)
 found_apart conf o test (x ∷ list) e found apart =
     elim (cases_choice (test x) (Some x) (find test list) e found) [
-      inl h ↦ rw (same_Some x e h.1) at apart.0
-    | inr h ↦ found_apart conf o test list e h.1 apart.1 ]
+      | inl h ↦ rw (same_Some x e h.1) at apart.0
+      | inr h ↦ found_apart conf o test list e h.1 apart.1
+    ]
 
 -- what is left of a list when one of its entries is taken out, beside that entry
 record IsTaken (conf : CacheConf) (list : List Entry) (e : Entry) : Type 0 where
@@ -56,8 +57,9 @@ taken_found : (conf : CacheConf) (test : Entry → Bool) (list : List Entry) (e 
 taken_found conf test [] e found apart = absurd (none-some e found)
 taken_found conf test (x ∷ list) e found apart =
     elim (cases_choice (test x) (Some x) (find test list) e found) [
-      inl h ↦ rw (← (same_Some x e h.1)) (taken_head conf list x apart)
-    | inr h ↦ taken_tail conf list x e (found_apart conf x test list e h.1 apart.1) (taken_found conf test list e h.1 apart.2) ]
+      | inl h ↦ rw (← (same_Some x e h.1)) (taken_head conf list x apart)
+      | inr h ↦ taken_tail conf list x e (found_apart conf x test list e h.1 apart.1) (taken_found conf test list e h.1 apart.2)
+    ]
 
 used_state : (conf : CacheConf) (list : List Entry) (e : Entry) → IsTaken conf list e → IsState conf list → IsState conf (e ∷ without e.key list)
 used_state conf list e h state = record {
@@ -78,11 +80,13 @@ front_apart conf new [] others free = tt
 front_apart conf new (o ∷ kept) others free =
     let keys = and_parts (not (bytes_eq o.key new.key)) (lacks new.key kept) others in
     let places = and_parts (is_clear_of conf new.first (span conf new.value) o) (is_free conf kept (span conf new.value) new.first) free in
-    let clear = places.0 in
-    (record {
-      keys = λ q. both_ways (bytes_eq o.key new.key) (not-true (bytes_eq o.key new.key) keys.0) ((bytes_eq-Decides o.key new.key).1 (sym q));
-      blocks = λ block a b. grind (arith, nat_tests);
-    }, front_apart conf new kept keys.1 places.1)
+    let clear = places.0 in (
+      record {
+        keys = λ q. both_ways (bytes_eq o.key new.key) (not-true (bytes_eq o.key new.key) keys.0) ((bytes_eq-Decides o.key new.key).1 (sym q));
+        blocks = λ block a b. grind (arith, nat_tests);
+      },
+      front_apart conf new kept keys.1 places.1,
+    )
 
 -- a key and a value that a call may write
 record IsFit (conf : CacheConf) (key value : List ℕ) : Type 0 where
@@ -97,8 +101,9 @@ passes_filter : {X : Type 0} (p : X → Bool) (xs : List X) → list_all p (filt
 passes_filter p [] = refl
 passes_filter p (x ∷ xs) =
     elim (cases_Bool (p x)) [
-      inl kept ↦ rw kept (rw kept (passes_filter p xs))
-    | inr left ↦ rw left (passes_filter p xs) ]
+      | inl kept ↦ rw kept (rw kept (passes_filter p xs))
+      | inr left ↦ rw left (passes_filter p xs)
+    ]
 
 front_at : (conf : CacheConf) (list kept : List Entry) (key value : List ℕ) (dies s : ℕ) → IsFit conf key value → IsState conf list → IsRoom conf (without key list) kept (span conf value) → first_run conf kept (span conf value) ≡ Some s → IsState conf (record { key = key; value = value; dies = dies; first = s } ∷ kept)
 front_at conf list kept key value dies s fit state room run =
@@ -108,9 +113,11 @@ front_at conf list kept key value dies s fit state room run =
     let few = ltb-true (length kept) conf.items (and_parts (nat_lt (length kept) conf.items) (is_some (first_run conf kept n)) room.fits).0 in
     record {
       few = omega (arith, few);
-      apart = (record { key = fit.of_key; value = fit.of_value; blocks = omega (arith, least.below) },
+      apart = (
+        record { key = fit.of_key; value = fit.of_value; blocks = omega (arith, least.below) },
         front_apart conf (record { key = key; value = value; dies = dies; first = s }) kept (part_all others room.part (passes_filter others list)) least.holds,
-        part_apart conf room.part (part_apart conf (part_filter others list) state.apart));
+        part_apart conf room.part (part_apart conf (part_filter others list) state.apart),
+      );
     }
 
 front_state : (conf : CacheConf) (list kept : List Entry) (key value : List ℕ) (dies : ℕ) → IsFit conf key value → IsState conf list → IsRoom conf (without key list) kept (span conf value) → IsState conf (record { key = key; value = value; dies = dies; first = unwrap_or (first_run conf kept (span conf value)) 0 } ∷ kept)

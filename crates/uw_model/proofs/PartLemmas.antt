@@ -1,10 +1,10 @@
 -- A part of a list of entries: some of them, in their order. What a policy leaves of a list is one, and keeps what holds of the list.
-use Rattle.std.proofs.Common.{◌≡◌, ◌≢◌, ℕ, zero, suc, ◌+◌, ◌-◌, ◌<◌, ◌≤◌, Bool, true, false, not, ◌&&◌, cond, List, [], ◌∷◌, length, take, filter, refl, sym, ap, ◌∙◌, inl, inr, arith}
+use Rattle.std.proofs.Common.{◌≡◌, ℕ, zero, suc, ◌≤◌, Bool, true, false, cond, List, [], ◌∷◌, length, take, filter, refl, arith}
 use Rattle.std.specs.List.{list_all}
-use Rattle.std.proofs.lemmas.Bool.{cases_Bool, and_parts, and_from}
+use Rattle.std.proofs.lemmas.Bool.{and_parts, and_from}
 use Rattle.uw_model.specs.declared.conf.CacheConf.{CacheConf}
 use Rattle.uw_model.specs.declared.entries.Entry.{Entry}
-use Rattle.uw_model.specs.Entries.{IsEntry, IsApartFrom, AreApart, IsState}
+use Rattle.uw_model.specs.Entries.{IsApartFrom, AreApart, IsState}
 
 pub data IsPart : List Entry → List Entry → Type 0 where
   end : IsPart [] []

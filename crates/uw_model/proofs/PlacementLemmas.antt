@@ -1,5 +1,5 @@
 -- The least place at which a test holds.
-use Rattle.std.proofs.Common.{◌≡◌, ℕ, zero, suc, ◌+◌, ◌-◌, ◌<◌, ◌≤◌, Bool, true, false, cond, List, take, Option, None, Some, refl, sym, ap, ◌∙◌, inl, inr, arith}
+use Rattle.std.proofs.Common.{◌≡◌, ℕ, zero, suc, ◌+◌, ◌-◌, ◌<◌, ◌≤◌, Bool, true, false, List, take, None, Some, refl, sym, ap, ◌∙◌, inl, inr, arith}
 use Rattle.std.proofs.lemmas.Bool.{cases_eq, cases_Bool}
 use Rattle.std.proofs.lemmas.Option.{none-some, same_Some}
 use Rattle.uw_model.specs.declared.conf.CacheConf.{CacheConf}
@@ -32,8 +32,9 @@ unfolding least_place
 least_place_found test zero from s h = absurd (omega (arith, h.above, h.below))
 least_place_found test (suc count) from s h =
     elim (cases_Bool (test from)) [
-      inl e ↦ rw e (ap (λ k. Some k) (least_here test from _ s e h))
-    | inr e ↦ rw e (least_place_found test count (from + 1) s (least_later test count from s e h)) ]
+      | inl e ↦ rw e (ap (λ k. Some k) (least_here test from _ s e h))
+      | inr e ↦ rw e (least_place_found test count (from + 1) s (least_later test count from s e h))
+    ]
 
 pub least_place_nowhere : (test : ℕ → Bool) (count from : ℕ) → FailsBetween test from (from + count) → least_place test count from ≡ None
 unfolding least_place
@@ -44,12 +45,17 @@ least_place_nowhere test (suc count) from h =
 -- the other way round: what the answer says
 least_from_here : (test : ℕ → Bool) (count from s : ℕ) → test from ≡ true → from ≡ s → IsLeast test from (from + suc count) s
 least_from_here test count from s here q = record {
-  above = omega (arith, q); below = omega (arith, q); holds = rw (← q) here; before = λ k a b. absurd (omega (arith, q));
+  above = omega (arith, q);
+  below = omega (arith, q);
+  holds = rw (← q) here;
+  before = λ k a b. absurd (omega (arith, q));
 }
 
 least_from_later : (test : ℕ → Bool) (count from s : ℕ) → test from ≡ false → IsLeast test (from + 1) ((from + 1) + count) s → IsLeast test from (from + suc count) s
 least_from_later test count from s here h = record {
-  above = omega (arith, h.above); below = omega (arith, h.below); holds = h.holds;
+  above = omega (arith, h.above);
+  below = omega (arith, h.below);
+  holds = h.holds;
   before = λ k a b. elim (cases_eq from k) [ inl q ↦ rw (← q) here | inr apart ↦ h.before k (omega arith) b ];
 }
 
@@ -58,18 +64,21 @@ unfolding least_place
 least_place_is test zero from s e = absurd (none-some s e)
 least_place_is test (suc count) from s e =
     elim (cases_Bool (test from)) [
-      inl here ↦ least_from_here test count from s here (same_Some from s (rw here at e))
-    | inr here ↦ least_from_later test count from s here (least_place_is test count (from + 1) s (rw here at e)) ]
+      | inl here ↦ least_from_here test count from s here (same_Some from s (rw here at e))
+      | inr here ↦ least_from_later test count from s here (least_place_is test count (from + 1) s (rw here at e))
+    ]
 
 pub least_place_none : (test : ℕ → Bool) (count from : ℕ) → least_place test count from ≡ None → FailsBetween test from (from + count)
 unfolding least_place
 least_place_none test zero from e k a b = absurd (omega arith)
 least_place_none test (suc count) from e k a b =
     elim (cases_Bool (test from)) [
-      inl here ↦ absurd (none-some from (sym (rw here at e)))
-    | inr here ↦ elim (cases_eq from k) [
-        inl q ↦ rw (← q) here
-      | inr apart ↦ least_place_none test count (from + 1) (rw here at e) k (omega arith) (omega arith) ] ]
+      | inl here ↦ absurd (none-some from (sym (rw here at e)))
+      | inr here ↦ elim (cases_eq from k) [
+        | inl q ↦ rw (← q) here
+        | inr apart ↦ least_place_none test count (from + 1) (rw here at e) k (omega arith) (omega arith)
+      ]
+    ]
 
 -- the least free run, by a place that is free and stands behind no free one
 pub first_run_found : (conf : CacheConf) (list : List Entry) (n s : ℕ) → s + n ≤ conf.blocks → is_free conf list n s ≡ true → ((k : ℕ) → k < s → is_free conf list n k ≡ false) → Some s ≡ first_run conf list n

@@ -5,3 +5,4 @@ pub mod History
 pub mod Counted
 pub mod Keys
 pub mod ListState
+pub mod Laws

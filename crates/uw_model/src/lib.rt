@@ -6,6 +6,7 @@ pub mod calls;
 pub mod conf;
 pub mod entries;
 mod keys;
+pub mod laws;
 mod list_cache;
 mod placement;
 mod sizes;

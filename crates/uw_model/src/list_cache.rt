@@ -3,12 +3,10 @@ ghost use Rattle.std.specs.Prelude.{◌≡◌, [], IfOk, OnOk, OnErr};
 ghost use Rattle.uw_model.specs.Entries.{IsCacheConf};
 ghost use Rattle.uw_model.specs.Calls.{answer, next_state};
 
+use crate::{Answer, CacheConf, Call, Entry, steps};
 use std::alloc::Global;
 use std::marker::Model;
 use uw_base::{Bytes, Memory};
-
-use crate::steps;
-use crate::{Answer, CacheConf, Call, Entry};
 
 /// A cache as a plain list of entries, the most recent first: the meaning of a cache as a program. Each call looks
 /// through the list. Contracts see the configuration and the list, which is a well-formed one at any time.
@@ -83,3 +81,6 @@ fn copy_of(alloc: Global, conf: &CacheConf) -> Result<CacheConf, Memory>
         clear_on_full: conf.clear_on_full,
     })
 }
+
+#[cfg(test)]
+mod tests;

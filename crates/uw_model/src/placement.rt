@@ -46,7 +46,13 @@ fn is_in_the_way(conf: &CacheConf, entry: &Entry, at: Option<u64>, n: u64, place
 
 /// The end of an entry that counts and covers one of the n blocks from the place on. From no place before that end
 /// on are the n blocks free.
-fn end_in_the_way(conf: &CacheConf, entries: &[Entry], at: Option<u64>, n: u64, place: u64) -> Option<u64>
+fn end_in_the_way(
+    conf: &CacheConf,
+    entries: &[Entry],
+    at: Option<u64>,
+    n: u64,
+    place: u64,
+) -> Option<u64>
     requires conf { IsCacheConf conf.now }
     requires entries { All (IsEntry conf.now) entries.now }
     requires within { place + n ≤ conf.now.blocks }

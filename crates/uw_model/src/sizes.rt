@@ -59,5 +59,9 @@ pub fn is_too_long(conf: &CacheConf, value: &[u8]) -> bool
 pub fn dies_at(moment: u64, ttl: u64) -> u64
     ensures { result ≡ dies_at moment ttl }
 {
-    if ttl == 0 { 0 } else { moment.saturating_add(ttl) }
+    if ttl == 0 {
+        0
+    } else {
+        moment.saturating_add(ttl)
+    }
 }

@@ -6,13 +6,12 @@ ghost use Rattle.uw_model.specs.Entries.{IsCacheConf, IsState};
 ghost use Rattle.uw_model.specs.Calls.{answer, next_state, written, alive_at, got};
 ghost use Rattle.uw_model.specs.Keys.{HaveOwnKeys, IsAlivePlace};
 
-use std::alloc::Global;
-use uw_base::{Bytes, Memory};
-
 use crate::keys::{move_to_front, place_of, put_back, put_in_front, take_out};
 use crate::placement::{first_run, is_alive, make_room};
 use crate::sizes::{dies_at, is_bad_key, is_too_long, span};
 use crate::{Answer, CacheConf, Entry};
+use std::alloc::Global;
+use uw_base::{Bytes, Memory};
 
 /// The place of the alive entry of a key.
 fn place_of_alive(conf: &CacheConf, entries: &[Entry], moment: u64, key: &[u8]) -> Option<usize>
@@ -42,7 +41,13 @@ fn touch(conf: &CacheConf, entries: &mut Vec<Entry>, place: usize)
 }
 
 /// The value of a key.
-pub fn get(alloc: Global, conf: &CacheConf, entries: &mut Vec<Entry>, moment: u64, key: &[u8]) -> Result<Answer, Memory>
+pub fn get(
+    alloc: Global,
+    conf: &CacheConf,
+    entries: &mut Vec<Entry>,
+    moment: u64,
+    key: &[u8],
+) -> Result<Answer, Memory>
     requires { IsState conf.now entries.old.items }
     ensures answer { IfOk result (λ a. a ≡ answer conf.now entries.old.items moment (calls.Get key.now)) }
     ensures next { OnOk result (entries.new.items ≡ next_state conf.now entries.old.items moment (calls.Get key.now)) }
@@ -73,7 +78,13 @@ fn copied(alloc: Global, key: &[u8], value: &[u8], dies: u64) -> Result<Entry, M
 
 /// Puts an entry in front, at the first run, in room made at this moment, in a list that has memory for one more. Any
 /// other entry of its key goes. The answer is the given one, or `Full` where no list has room.
-fn place(conf: &CacheConf, entries: &mut Vec<Entry>, moment: u64, mut entry: Entry, answered: Answer) -> Answer
+fn place(
+    conf: &CacheConf,
+    entries: &mut Vec<Entry>,
+    moment: u64,
+    mut entry: Entry,
+    answered: Answer,
+) -> Answer
     requires conf { IsCacheConf conf.now }
     requires state { IsState conf.now entries.old.items }
     requires memory { vec_len entries.old < vec_capacity entries.old }

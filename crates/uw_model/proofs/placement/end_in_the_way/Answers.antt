@@ -1,8 +1,6 @@
 -- Up to the end of the entry in the way no run is free; and with no entry in the way the place is free.
-use Rattle.std.proofs.Common.{not, sym, ap, ◌∙◌, arith}
-use Rattle.std.specs.List.{list_all}
+use Rattle.std.proofs.Common.{sym, ◌∙◌}
 use Rattle.std.proofs.lemmas.List.{take_all}
-use Rattle.uw_model.specs.Counted.{is_in_the_way}
 use Rattle.uw_model.proofs.CountedLemmas.{end_blocks, free_of}
 use Rattle.uw_model.proofs.placement.end_in_the_way.Goals as goal
 

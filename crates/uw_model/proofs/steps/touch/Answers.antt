@@ -1,5 +1,5 @@
 -- The entry in front of the list without it.
-use Rattle.std.proofs.Common.{◌<◌, length, ◌∙◌, arith}
+use Rattle.std.proofs.Common.{◌∙◌, arith}
 use Rattle.uw_model.proofs.KeysLemmas.{used_at}
 use Rattle.uw_model.proofs.steps.touch.Goals as goal
 
