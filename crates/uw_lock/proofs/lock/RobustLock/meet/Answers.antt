@@ -1,0 +1,22 @@
+use Rattle.std.proofs.Common.{rules, ◌≡◌, ◌<◌, false, sym, ap, ◌∙◌, subst, arith}
+use Rattle.uw_lock.proofs.Steps.{splits_note, joins_note, looks_up}
+use Rattle.uw_lock.proofs.lock.RobustLock.meet.Goals as goal
+
+pub split_seat-note-requires : goal.split_seat-note-requires
+split_seat-note-requires g c = let words = c.self.invariant.0 in (search rules, omega (arith, words), splits_note g.K.Kept.stands g.K.Kept.pending g.K.Kept.conf _ _ _ c.b.invariant.2)
+
+pub join_seat-requires : goal.join_seat-requires
+join_seat-requires g c = let words = c.self.invariant.0 in let note = c.split_seat-note.ensures in (
+  search rules,
+  search rules,
+  ap (λ m. m.1) note.4,
+  omega (arith, words),
+  joins_note g.K.Kept.stands g.K.Kept.pending g.K.Kept.conf _ _ _ _ _ c.a.invariant.2 (ap (λ m. m.0.holds) note.4),
+)
+
+pub load-requires : goal.load-requires
+load-requires g c = let words = c.self.invariant.0 in let after = c.join_seat.ensures.2 in (
+  search rules,
+  omega (arith, words),
+  looks_up g.K.Kept.stands g.K.Kept.pending g.K.Kept.conf _ _ _ _ (subst (λ m. 0 < m.0.step) (sym after) c.a.invariant.1) (ap (λ m. m.0.holds) after ∙ c.a.invariant.2),
+)
