@@ -56,8 +56,11 @@ module _ {E C : Type 0} where
       dite (dec_le (2 * k) (2 * l)) (λ le. owns_differ v (2 * k) (2 * l + 1) some_step (omega arith) e) (λ no. owns_differ v (2 * l + 1) (2 * k) some_step (omega arith) (sym e))
 
   pub divided_mine : (v : View E C) (h : List (Made E)) → HasJustMine v h → HasJustMine (divided v) h
-  divided_mine v h f = (f.0, λ k. let e : 2 * (k + 1) ≡ (2 * k + 1) + 1 = omega arith in
-      subst (λ (n : ℕ). entries_by n h ≡ []) (sym (divided_owns v (k + 1) ∙ ap (owns v) e)) (f.1 (2 * k + 1)))
+  divided_mine v h f = (
+    f.0,
+    λ k. let e : 2 * (k + 1) ≡ (2 * k + 1) + 1 = omega arith in
+        subst (λ (n : ℕ). entries_by n h ≡ []) (sym (divided_owns v (k + 1) ∙ ap (owns v) e)) (f.1 (2 * k + 1)),
+  )
 
   pub granted_mine : (v : View E C) (h : List (Made E)) → HasJustMine v h → HasJustMine (granted v) h
   granted_mine v h f = (

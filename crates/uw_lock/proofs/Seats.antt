@@ -51,7 +51,7 @@ module _ {E C : Type 0} where
       each_set (λ x u. x ≢ j → Apart u b) views id w
       (λ ne. each_set (λ y z. id ≢ y → Apart w z) views id w (λ no. absurd (no refl)) (λ y z other e no. apart_of z v w o (apart id y v z at e no)) j b ej ne)
       (λ x u other e ne. each_set (λ y z. x ≢ y → Apart u z) views id w
-          (λ no. apart_turned w u (apart_of u v w o (apart id x v u at e (λ same. other (sym same))))) (λ y z _ f no. apart x y u z e f no) j b ej ne)
+      (λ no. apart_turned w u (apart_of u v w o (apart id x v u at e (λ same. other (sym same))))) (λ y z _ f no. apart x y u z e f no) j b ej ne)
       i a ei differ
 
   pub apart_end : (views : List (View E C)) (w : View E C) → AreApart views → ((j : ℕ) (u : View E C) → get_elem? views j ≡ some u → Apart u w) → AreApart (views ++ w ∷ [])

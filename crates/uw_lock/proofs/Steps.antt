@@ -1,16 +1,17 @@
 -- Each kind of step keeps the rule, and tells what it is to tell.
-use Rattle.std.proofs.Common.{◌≡◌, ◌≢◌, ℕ, zero, suc, ◌+◌, ◌*◌, ◌%◌, ◌^◌, ◌<◌, ◌⊎◌, Bool, true, false, List, [], ◌∷◌, ◌++◌, map, length, get_or, set, Option, Some, None, sym, refl, ap, ◌∙◌, subst, inl, inr, ⊎_elim, arith, length-set, get_or-set_same, get_or-set_other}
+use Rattle.std.proofs.Common.{◌≡◌, ◌≢◌, ℕ, zero, suc, ◌+◌, ◌*◌, ◌%◌, ◌^◌, ◌<◌, ◌⊎◌, Bool, true, false, List, [], ◌∷◌, ◌++◌, map, length, get_or, set, Option, Some, None, IfSome, IfNone, sym, refl, ap, ◌∙◌, subst, inl, inr, ⊎_elim, arith, length-set, get_or-set_same, get_or-set_other}
 use mathlib.Core.Logic.{dite}
-use mathlib.Core.Option.{some, none, some-ne-none}
+use mathlib.Core.Option.{some, none, some-ne-none, some-injective}
 use native.Mathlib.Decide.{ℕ_discrete}
 use lib.ListN.{get_elem?}
 use Rattle.std.proofs.Math.Nat.{mod-add-mod}
 use Rattle.std.proofs.lemmas.List.{length-append}
-use Rattle.atomic_table.specs.Table.{State, Me, Step, rest, step, keeps, takes, gives, stepped, opening, Allows, Splits, Joins}
+use Rattle.atomic_table.specs.Table.{State, Me, Step, rest, step, keeps, takes, gives, stepped, opening, Final, Seen, Allows, Splits, Joins}
+use Rattle.atomic_table.specs.Seated.{TableId}
 use Rattle.atomic_table.proofs.Lists.{set_here, set_else, set_again, at_longer}
 use Rattle.uw_lock.specs.declared.entries.Made.{Made}
 use Rattle.uw_lock.specs.declared.entries.View.{View}
-use Rattle.uw_lock.specs.LockRule.{StartsWith, owns, HasJustMine, first_view, with_entry, IsAtRest, IsHolding, IsFit, Fits, HoldsHistory, Took, Taken, Looked, Noted, Left, IsEnding, made, divided, granted, bare, informed}
+use Rattle.uw_lock.specs.LockRule.{StartsWith, owns, HasJustMine, first_view, with_entry, IsAtRest, IsHolding, IsFit, Fits, HoldsHistory, Took, Taken, Looked, Noted, Left, IsEnding, IsWhole, IsLeftHeld, known, made, divided, granted, bare, informed}
 use Rattle.uw_lock.proofs.Histories.{starts_same, starts_longer, noted_mine, other_mine, owns-zero, divided_owns, granted_owns, divided_mine, granted_mine, halves_differ}
 use Rattle.uw_lock.proofs.Seats.{at_below, at_end, same_place, each_set, each_end, Apart, OwnsOf, apart_set, apart_end}
 
@@ -22,6 +23,14 @@ word_at (x ∷ xs) (suc i) h = word_at xs i (omega arith)
 -- storing what is there changes nothing
 stored_again : (l : List ℕ) (i n : ℕ) → i < length l → get_or l i 0 ≡ n → set l i n ≡ l
 stored_again l i n h e = set_again l i n (word_at l i h ∙ ap some e)
+
+pub if_some : {A : Type 0} (P Q : A → Type 0) (o : Option A) → ((x : A) → P x → Q x) → IfSome o P → IfSome o Q
+if_some P Q None f h = tt
+if_some P Q (Some x) f h = f x h
+
+pub if_none : {A : Type 0} (P Q : Type 0) (o : Option A) → (P → Q) → IfNone o P → IfNone o Q
+if_none P Q None f h = f h
+if_none P Q (Some x) f h = tt
 
 not_both : (b : Bool) → b ≡ true → b ≡ false → ⊥
 not_both b is not = let e : true ≡ false = sym is ∙ not in cc
@@ -105,12 +114,11 @@ module _ {K E C : Type 0} (stands : K → List (Made E) → Type 0) (pending : K
           home = λ no. absurd (no (still ∙ o.0));
           only = each_set (λ j u. u.holds ≡ true → (get_or (set s.words 1 added) 0 0 ≡ 1) × (j ≡ id) × (u.seen ≡ h)) s.views id w
               (λ _. (still ∙ o.0, refl, ap (λ (l : List (Made E)). l ++ e ∷ []) o.2)) (λ j u other at' h'. absurd (holder_is s r id m.0 at holds j u other at' h'));
-          fits = each_set (λ j u. Fits c h u) s.views id w
-              (
-                subst (λ (l : List (Made E)). StartsWith h (l ++ e ∷ [])) (sym o.2) (starts_same h),
-                starts_longer r.history m.0.told (e ∷ []) f.1,
-                λ _. (n.0, noted_mine m.0 e r.history refl some_step n.1, noted_mine m.0 e m.0.seen refl some_step n.2),
-              )
+          fits = each_set (λ j u. Fits c h u) s.views id w (
+            subst (λ (l : List (Made E)). StartsWith h (l ++ e ∷ [])) (sym o.2) (starts_same h),
+            starts_longer r.history m.0.told (e ∷ []) f.1,
+            λ _. (n.0, noted_mine m.0 e r.history refl some_step n.1, noted_mine m.0 e m.0.seen refl some_step n.2),
+          )
               (λ j u other at'. let g = r.fits j u at' in (
                 starts_longer r.history u.seen (e ∷ []) g.0,
                 starts_longer r.history u.told (e ∷ []) g.1,
@@ -207,16 +215,16 @@ module _ {K E C : Type 0} (stands : K → List (Made E) → Type 0) (pending : K
   splits_pass id v some_step idle s r at = let f = r.fits id v at in let n = f.2 some_step in
       let first = review s r id v (divided v) at idle idle (f.0, f.1, λ _. (n.0, divided_mine v r.history n.1, divided_mine v v.seen n.2)) (λ _. (some_step, λ k. (2 * k, divided_owns v k))) in
       enrol (record { words = s.words; homes = s.homes; views = set s.views id (divided v) }) first (granted v) idle
-          (f.0, f.1, λ _. (n.0, granted_mine v r.history n.1, granted_mine v v.seen n.2))
-          (each_set (λ j u. Apart u (granted v)) s.views id (divided v)
-              (λ p q k l same. halves_differ v k l some_step same)
-              (λ j u other e p q k l same. r.apart j id u v e at other p some_step k (2 * l + 1) (same ∙ granted_owns v l)))
+      (f.0, f.1, λ _. (n.0, granted_mine v r.history n.1, granted_mine v v.seen n.2))
+      (each_set (λ j u. Apart u (granted v)) s.views id (divided v)
+      (λ p q k l same. halves_differ v k l some_step same)
+      (λ j u other e p q k l same. r.apart j id u v e at other p some_step k (2 * l + 1) (same ∙ granted_owns v l)))
 
   -- the split that cuts off a note of what was seen
   pub splits_note : (id : ℕ) (v : View E C) → v.holds ≡ false → Splits Rule id v v (bare v.seen)
   splits_note id v idle s r at = let f = r.fits id v at in
       subst (λ (l : List (View E C)). Rule (record { words = s.words; homes = s.homes; views = l ++ bare v.seen ∷ [] })) (sym (set_again s.views id v at))
-          (enrol s r (bare v.seen) refl (f.0, (r.history, refl), λ p. absurd (omega arith)) (λ j u e p q. absurd (omega arith)))
+      (enrol s r (bare v.seen) refl (f.0, (r.history, refl), λ p. absurd (omega arith)) (λ j u e p q. absurd (omega arith)))
 
   -- the join of a note, which a pass keeps until it looks
   pub joins_note : (id : ℕ) (v : View E C) (other : ℕ) (w : View E C) → v.holds ≡ false → w.holds ≡ false → Joins Rule id v other w (informed v w) (bare [])
@@ -225,7 +233,7 @@ module _ {K E C : Type 0} (stands : K → List (Made E) → Type 0) (pending : K
       let g = r.fits other w (sym (set_else s.views id other both differ) ∙ there) in
       let first = review s r id v both at idle idle (f.0, g.0, f.2) (owns_same v) in
       review (record { words = s.words; homes = s.homes; views = set s.views id both }) first other w (bare []) there still refl
-          ((r.history, refl), (r.history, refl), λ p. absurd (omega arith)) (λ p. absurd (omega arith))
+      ((r.history, refl), (r.history, refl), λ p. absurd (omega arith)) (λ p. absurd (omega arith))
 
   -- the table at its start
   pub opens : (value : K) → stands value [] → pending value ≡ false → conf value ≡ c → Rule (opening (0 ∷ 0 ∷ []) (Some value ∷ []) (first_view c))
@@ -241,3 +249,26 @@ module _ {K E C : Type 0} (stands : K → List (Made E) → Type 0) (pending : K
     fits = each_end (λ j u. Fits c [] u) [] (first_view c) (([], refl), ([], refl), λ _. (refl, (refl, λ k. refl), (refl, λ k. refl))) (λ j u e. absurd (some-ne-none u (sym e)));
     apart = apart_end [] (first_view c) (λ i j v w e. absurd (some-ne-none v (sym e))) (λ j u e. absurd (some-ne-none u (sym e)));
   }
+
+  -- the table at its end
+  abbrev Last : ℕ → View E C → List ℕ → List (Option K) → Type 0
+  Last id v ws xs = Final (Seen Rule id v) ws xs
+
+  not_held : (id : ℕ) (v : View E C) (ws : List ℕ) (xs : List (Option K)) (f : Last id v ws xs) → get_elem? ws 0 ≢ some 1 → owner f.0 ≢ 1
+  not_held id v ws xs f other one = let wide = f.1.0.wide in other (ap (λ (l : List ℕ). get_elem? l 0) (sym f.2) ∙ (word_at f.0.words 0 (omega arith) ∙ ap some one))
+
+  pub closes_home : (id : ℕ) (v : View E C) (ws : List ℕ) (xs : List (Option K)) → Last id v ws xs → get_elem? ws 0 ≢ some 1 → (x : K) × (get_elem? xs 0 ≡ some (Some x))
+  closes_home id v ws xs f other = let h = f.1.0.home (not_held id v ws xs f other) in (h.0, f.4 0 (Some h.0) h.1)
+
+  pub closes_whole : (lock : TableId) (id : ℕ) (v : View E C) (ws : List ℕ) (xs : List (Option K)) (x : K) → 0 < v.step → Last id v ws xs → get_elem? ws 0 ≢ some 1 → get_elem? xs 0 ≡ some (Some x)
+      → IsWhole stands pending conf (known lock v) x
+  closes_whole lock id v ws xs x some_step f other there =
+      let r = f.1.0 in let h = r.home (not_held id v ws xs f other) in let g = r.fits id v f.1.1 in let n = g.2 some_step in
+      subst (IsWhole stands pending conf (known lock v)) (some_same h.0 x (some-injective (Some h.0) (Some x) (sym (f.4 0 (Some h.0) h.1) ∙ there)))
+      (r.history, h.2.0, g.0, n.1.0, n.0 ∙ ap Some (sym h.2.1))
+
+  pub closes_held : (lock : TableId) (id : ℕ) (v : View E C) (ws : List ℕ) (xs : List (Option K)) → v.holds ≡ false → Last id v ws xs → get_elem? ws 0 ≡ some 1
+      → IsLeftHeld stands pending conf (known lock v)
+  closes_held lock id v ws xs idle f held = let wide = f.1.0.wide in
+      let one : owner f.0 ≡ 1 = some-injective (owner f.0) 1 (sym (word_at f.0.words 0 (omega arith)) ∙ (ap (λ (l : List ℕ). get_elem? l 0) f.2 ∙ held)) in
+      (c, f.0, id, v, f.1.0, one, f.1.1, refl, idle)

@@ -93,6 +93,9 @@ module _ {K E C : Type 0} where
   abbrev pub with_note : Held K E C → ℕ → E → Held K E C
   with_note t moment entry = let e : Made E = made t.pass.number moment entry in record t { pass = record t.pass { seen = t.pass.seen ++ e ∷ []; mine = t.pass.mine ++ e ∷ [] } }
 
+  abbrev pub with_value : Held K E C → K → Held K E C
+  with_value t value = record t { value = value }
+
 module _ {E C : Type 0} where
   -- of a view that has numbers: it has the configuration, and the history and what it has seen have just its own entries
   abbrev pub FitsNumbers : C → List (Made E) → View E C → Type 0
@@ -133,11 +136,19 @@ module _ {K E C : Type 0} (stands : K → List (Made E) → Type 0) (pending : K
     pub fits : AllFit c history s.views
     pub apart : AreApart s.views
 
+  -- what a lock is left with: the value stands for a history that begins with all that the pass has seen, and has of its number just its own entries
+  abbrev pub IsWhole : Known E C → K → Type 0
+  IsWhole p value = (history : List (Made E)) × stands value history × StartsWith history p.seen × (entries_by p.number history ≡ p.mine) × (p.conf ≡ Some (conf value))
+
+  -- some seat other than the pass's holds the lock
+  abbrev pub IsLeftHeld : Known E C → Type 0
+  IsLeftHeld p = (c : C) × (s : State (Option K) (View E C)) × (id : ℕ) × (v : View E C) × HoldsHistory c s × (slice_index s.words 0 ≡ 1) × (get_elem? s.views id ≡ some v) × (known p.lock v ≡ p) × (v.holds ≡ false)
+
   -- what the swap that tries to take the lock tells where it did
   abbrev pub Took : Me (Option K) (View E C) → ℕ → Me (Option K) (View E C) → Type 0
   Took m found n =
-    (value : K) × (n.1 ≡ (0, Some value) ∷ m.1) × (n.0 ≡ record m.0 { seen = n.0.seen; holds = true }) × StartsWith n.0.seen m.0.seen × HasJustMine n.0 n.0.seen
-    × (n.0.conf ≡ Some (conf value)) × stands value n.0.seen × (found ≢ 2 → pending value ≡ false)
+      (value : K) × (n.1 ≡ (0, Some value) ∷ m.1) × (n.0 ≡ record m.0 { seen = n.0.seen; holds = true }) × StartsWith n.0.seen m.0.seen × HasJustMine n.0 n.0.seen
+      × (n.0.conf ≡ Some (conf value)) × stands value n.0.seen × (found ≢ 2 → pending value ≡ false)
 
   abbrev pub Taken : Step (Option K) → Me (Option K) (View E C) → ℕ → Me (Option K) (View E C) → Type 0
   Taken st m found n = (found ≡ 1 → n ≡ m) × (found ≢ 1 → Took m found n)
@@ -145,14 +156,14 @@ module _ {K E C : Type 0} (stands : K → List (Made E) → Type 0) (pending : K
   -- the seat holds the lock, and its value is in hand
   abbrev pub HasTaken : Me (Option K) (View E C) → K → Bool → Me (Option K) (View E C) → Type 0
   HasTaken m value dead n =
-    (n.1 ≡ (0, None) ∷ []) × (n.0 ≡ record m.0 { seen = n.0.seen; holds = true }) × StartsWith n.0.seen m.0.seen × HasJustMine n.0 n.0.seen
-    × (n.0.conf ≡ Some (conf value)) × stands value n.0.seen × (dead ≡ false → pending value ≡ false)
+      (n.1 ≡ (0, None) ∷ []) × (n.0 ≡ record m.0 { seen = n.0.seen; holds = true }) × StartsWith n.0.seen m.0.seen × HasJustMine n.0 n.0.seen
+      × (n.0.conf ≡ Some (conf value)) × stands value n.0.seen × (dead ≡ false → pending value ≡ false)
 
 module _ {K E C : Type 0} where
   -- the history so far was seen
   abbrev pub Looked : Step (Option K) → Me (Option K) (View E C) → ℕ → Me (Option K) (View E C) → Type 0
   Looked st m found n =
-    (n.1 ≡ m.1) × (n.0 ≡ record m.0 { seen = n.0.seen; told = [] }) × StartsWith n.0.seen m.0.seen × StartsWith n.0.seen m.0.told × HasJustMine n.0 n.0.seen
+      (n.1 ≡ m.1) × (n.0 ≡ record m.0 { seen = n.0.seen; told = [] }) × StartsWith n.0.seen m.0.seen × StartsWith n.0.seen m.0.told × HasJustMine n.0 n.0.seen
 
   -- the entry is the last of what was seen, and of the seat's own
   abbrev pub Noted : ℕ → Option E → Step (Option K) → Me (Option K) (View E C) → ℕ → Me (Option K) (View E C) → Type 0

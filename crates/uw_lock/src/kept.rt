@@ -3,10 +3,10 @@ ghost use Rattle.std.specs.Prelude.{List, Bool};
 ghost use Rattle.uw_lock.specs.declared.entries.Made.{Made};
 
 /// A value that stands for a history of entries. Its members say how, for proofs alone.
-pub trait Kept {
+pub trait Kept: Drop {
     /// What is noted of a call.
     type Entry;
-    /// The part of the value that no call changes.
+    /// The part of the value that no call changes. Only proofs have values of it.
     type Conf;
 
     // The configuration of a value.

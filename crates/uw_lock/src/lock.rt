@@ -1,12 +1,15 @@
 // The lock.
 ghost use Rattle.std.specs.Prelude.{◌≡◌, ◌≢◌, ◌+◌, ◌*◌, [], false, Some, IfOk, IfErr, IfSome, IfNone};
-ghost use Rattle.uw_lock.specs.LockRule.{StartsWith, HasOwn, owned, IsAtRest, HasTaken};
+ghost use Rattle.std.specs.Slots.{slots_items, slots_len, IsFull};
+ghost use mathlib.Core.Option.{some};
+ghost use lib.ListN.{get_elem?};
+ghost use Rattle.uw_lock.specs.LockRule.{StartsWith, HasOwn, owned, IsAtRest, HasTaken, IsWhole, IsLeftHeld};
 
 use crate::kept::Kept;
 use crate::pass::Pass;
 use crate::rule::{COUNT, DEAD, Grant, HELD, LockTable, Look, OWNER, Place, Steps, Take, Tell};
 use crate::turn::Turn;
-use atomic_table::{Refused, Table};
+use atomic_table::{Closed, Refused, Table};
 use std::alloc::Global;
 use std::marker::Model;
 use std::snapshot::Snapshot;
@@ -48,11 +51,7 @@ impl<K: Kept> RobustLock<K> {
         slots.push_reserved(Some(value));
         match Table::new(alloc, &[0, 0], slots, &about) {
             Ok((table, seat)) => Ok((RobustLock { table }, Pass { seat })),
-            Err(Refused { mut slots }) => {
-                let value = slots.pop().unwrap().unwrap();
-                slots.destroy_empty();
-                Err(value)
-            }
+            Err(Refused { mut slots }) => Err(slots.pop().unwrap().unwrap()),
         }
     }
 
@@ -74,6 +73,18 @@ impl<K: Kept> RobustLock<K> {
         Pass {
             seat: self.table.shared.split_seat::<Grant<K>>(&mut from.seat),
         }
+    }
+
+    /// The value, which stands for the whole history. Nothing is given only where the owner word stands at 1, since a turn
+    /// of another pass was dropped without being left.
+    pub fn close(self, pass: Pass<K>) -> Option<K>
+        requires { pass.lock ≡ self }
+        ensures value { IfSome result (λ v. IsWhole K.stands K.pending K.conf pass v) }
+        ensures none { IfNone result (IsLeftHeld K.stands K.pending K.conf pass) }
+    {
+        let RobustLock { table } = self;
+        let seat = pass.into_seat();
+        take_out(table.close_with(seat))
     }
 
     // One try to take the lock: the value, and whether the last holder died.
@@ -130,4 +141,21 @@ impl<K: Kept> RobustLock<K> {
         self.table.shared.join_seat::<Tell<K>>(&mut a.seat, note);
         self.table.shared.load::<Look<K>>(&mut a.seat, COUNT);
     }
+}
+
+// The value in a closed table's slot, exactly where the owner word isn't 1.
+fn take_out<K: Kept>(mut closed: Closed<Option<K>, Global>) -> Option<K>
+    requires words { (slots_len closed.words ≡ 2) × IsFull closed.words }
+    requires slots { (slots_len closed.slots ≡ 1) × IsFull closed.slots }
+    requires home { get_elem? (slots_items closed.words) 0 ≢ some 1 → (v : K) × (get_elem? (slots_items closed.slots) 0 ≡ some (Some v)) }
+    ensures none { IfNone result (get_elem? (slots_items closed.words) 0 ≡ some 1) }
+    ensures value { IfSome result (λ v. (get_elem? (slots_items closed.words) 0 ≢ some 1) × (get_elem? (slots_items closed.slots) 0 ≡ some (Some v))) }
+{
+    let owner = closed.word(OWNER);
+    let slot = closed.take(0);
+    closed.free();
+    if owner == HELD {
+        return None;
+    }
+    Some(slot.unwrap())
 }

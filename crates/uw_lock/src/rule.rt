@@ -23,11 +23,20 @@ pub const DEAD: u64 = 2;
 
 pub type Place<K> = Seat<Option<K>, View<<K as Kept>::Entry, <K as Kept>::Conf>>;
 
-pub type Steps<K> =
-    Shared<Option<K>, View<<K as Kept>::Entry, <K as Kept>::Conf>, Snapshot<K>, LockRule<K>>;
+pub type Steps<K> = Shared<
+    Option<K>,
+    View<<K as Kept>::Entry, <K as Kept>::Conf>,
+    Snapshot<K>,
+    LockRule<K>,
+>;
 
-pub type LockTable<K> =
-    Table<Option<K>, View<<K as Kept>::Entry, <K as Kept>::Conf>, Snapshot<K>, LockRule<K>, Global>;
+pub type LockTable<K> = Table<
+    Option<K>,
+    View<<K as Kept>::Entry, <K as Kept>::Conf>,
+    Snapshot<K>,
+    LockRule<K>,
+    Global,
+>;
 
 // The table's key is the first value, whose configuration all later ones have.
 pub struct LockRule<K> {

@@ -34,6 +34,21 @@ impl<'a, K: Kept> Model for Turn<'a, K> {
 }
 
 impl<'a, K: Kept> Turn<'a, K> {
+    ghost use Rattle.std.specs.Prelude.{[]};
+    ghost use mir.Syntax.{named};
+    ghost use Rattle.uw_lock.specs.contracts.turn.Turn.{the_row};
+    ghost use Rattle.uw_lock.specs.LockRule.{with_value};
+
+    /// The value. What is written through it is what the lock is left with.
+    pub fn value(&mut self) -> &mut K
+        ensures* lends { sem 𝓛 (Lends (the_row (record { mir = named 1; lft = [] }) K.row K.Entry.row K.Conf.row K.Kept) K.row self.entry result (with_value self.old)) }
+        ensures value { result.now ≡ self.old.value }
+    {
+        &mut self.value
+    }
+}
+
+impl<'a, K: Kept> Turn<'a, K> {
     /// Whether the last holder left by `leave_dead`. Where it did not, no intent is pending in the value that the turn began with.
     pub fn was_dead(&self) -> bool
         ensures { result ≡ self.now.was_dead }
@@ -110,8 +125,7 @@ fn end<K: Kept>(steps: &Steps<K>, mut seat: Place<K>, value: K, owner: u64) -> P
     ensures pass { result ≡ left_view seat.table_id seat.me }
     ensures own { HasOwn result }
 {
-    let nothing = steps.exchange(&mut seat, 0, Some(value));
-    let None = nothing else { unreachable!() };
+    drop(steps.exchange(&mut seat, 0, Some(value)));
     steps.store::<Leave<K>>(&mut seat, OWNER, owner);
     Pass { seat }
 }
