@@ -14,3 +14,6 @@ pub use kept::Kept;
 pub use lock::RobustLock;
 pub use pass::Pass;
 pub use turn::Turn;
+
+#[cfg(test)]
+mod tests;
