@@ -47,6 +47,9 @@ module _ {E C : Type 0} where
   pub owns-zero : (v : View E C) → owns v 0 ≡ v.number
   owns-zero v = omega arith
 
+  pub owns_any : (v : View E C) (n : ℕ) → v.number ≡ 0 → v.step ≡ 1 → owns v n ≡ n
+  owns_any v n first whole = (λ i. first i + n * whole i) ∙ omega arith
+
   -- a view's numbers differ from one another
   pub owns_differ : (v : View E C) (i j : ℕ) → 0 < v.step → i < j → owns v i ≢ owns v j
   owns_differ v i j some_step less same = let m : (i + 1) * v.step ≤ j * v.step = mul-le-mul_right v.step (omega arith) in omega (arith, one_more i v.step)

@@ -11,8 +11,8 @@ use Rattle.atomic_table.specs.Seated.{TableId}
 use Rattle.atomic_table.proofs.Lists.{set_here, set_else, set_again, at_longer}
 use Rattle.uw_lock.specs.declared.entries.Made.{Made}
 use Rattle.uw_lock.specs.declared.entries.View.{View}
-use Rattle.uw_lock.specs.LockRule.{StartsWith, owns, HasJustMine, first_view, with_entry, IsAtRest, IsHolding, IsFit, Fits, HoldsHistory, Took, Taken, Looked, Noted, Left, IsEnding, IsWhole, IsLeftHeld, known, made, divided, granted, bare, informed}
-use Rattle.uw_lock.proofs.Histories.{starts_same, starts_longer, noted_mine, other_mine, owns-zero, divided_owns, granted_owns, divided_mine, granted_mine, halves_differ}
+use Rattle.uw_lock.specs.LockRule.{StartsWith, owns, HasJustMine, first_view, with_entry, IsAtRest, IsHolding, IsFit, Fits, HoldsHistory, Took, Taken, Looked, Noted, Left, IsEnding, IsLast, IsWhole, IsLeftHeld, known, made, divided, granted, bare, informed}
+use Rattle.uw_lock.proofs.Histories.{starts_same, starts_longer, noted_mine, other_mine, owns-zero, owns_any, divided_owns, granted_owns, divided_mine, granted_mine, halves_differ}
 use Rattle.uw_lock.proofs.Seats.{at_below, at_end, same_place, each_set, each_end, Apart, OwnsOf, apart_set, apart_end}
 
 word_at : (l : List ℕ) (i : ℕ) → i < length l → get_elem? l i ≡ some (get_or l i 0)
@@ -58,6 +58,12 @@ module _ {K E C : Type 0} (stands : K → List (Made E) → Type 0) (pending : K
   owns_same : (v : View E C) → OwnsOf v v
   owns_same v p = (p, λ k. (k, refl))
 
+  -- a pass that owns every number is the last holder
+  only_seat : (s : St) (r : Rule s) (id : ℕ) (v : View E C) → get_elem? s.views id ≡ some v → 0 < v.step → v.number ≡ 0 → v.step ≡ 1 → r.last ≡ v
+  only_seat s r id v at some_step first whole = let u = r.last in let l = r.lasts in dite (ℕ_discrete id r.holder)
+      (λ same. same_place s.views id u v (subst (λ (j : ℕ). get_elem? s.views j ≡ some u) (sym same) l.0) at)
+      (λ other. absurd (r.apart id r.holder v u at l.0 other some_step l.1 u.number 0 (owns_any v u.number first whole ∙ sym (owns-zero u))))
+
   -- the swap that tries to take the lock
   pub takes_lock : (slots id : ℕ) (m : M) → IsAtRest m → Allows Rule slots id m 0 (λ _. 1) (Taken stands pending conf (step slots 0 1 0 none) m)
   takes_lock slots id m rest s r long at small = let wide = r.wide in let three = r.owner in let one : get_or (set s.words 0 1) 0 0 ≡ 1 = get_or-set_same s.words 0 1 0 (omega arith) in dite (ℕ_discrete (owner s) 1)
@@ -69,7 +75,7 @@ module _ {K E C : Type 0} (stands : K → List (Made E) → Type 0) (pending : K
             (λ i. (sym (stored_again s.words 0 1 (omega arith) held) i, sym (set_again s.views id m.0 at) i)) r,
         ((λ _. refl), λ no. absurd (no held)),
       ))
-      (λ free. let h = r.home free in let f = r.fits id m.0 at in let n = f.2 rest.1 in let w : View E C = record m.0 { seen = r.history; holds = true } in (
+      (λ free. let h = r.home free in let f = r.fits id m.0 at in let n = f.2 rest.1 in let w : View E C = record m.0 { seen = r.history; holds = true; word = owner s } in (
         w,
         takes 0 (Some h.0),
         h.1,
@@ -79,14 +85,15 @@ module _ {K E C : Type 0} (stands : K → List (Made E) → Type 0) (pending : K
           wide = length-set s.words 0 1 ∙ wide;
           owner = omega (arith, one);
           count = get_or-set_other s.words 0 1 1 0 (λ e. omega arith) ∙ r.count;
-          held = λ _. (w, set_here s.views id w (at_below s.views id m.0 at), refl, set_here s.homes 0 none (at_below s.homes 0 (some (Some h.0)) h.1));
+          last = w;
+          lasts = (set_here s.views id w (at_below s.views id m.0 at), rest.1, (λ no. absurd (no one)), λ _. (refl, set_here s.homes 0 none (at_below s.homes 0 (some (Some h.0)) h.1)));
           home = λ no. absurd (no one);
           only = each_set (λ j u. u.holds ≡ true → (get_or (set s.words 0 1) 0 0 ≡ 1) × (j ≡ id) × (u.seen ≡ r.history)) s.views id w (λ _. (one, refl, refl))
               (λ j u _ e holds. absurd (free (r.only j u e holds).0));
           fits = each_set (λ j u. Fits c r.history u) s.views id w (starts_same r.history, f.1, λ p. (n.0, n.1, n.1)) (λ j u _ e. r.fits j u e);
           apart = apart_set s.views id m.0 w at r.apart (owns_same m.0);
         },
-        ((λ held. absurd (free held)), λ _. (h.0, refl, refl, f.0, n.1, n.0 ∙ ap Some (sym h.2.1), h.2.0, λ no. h.2.2 (omega arith))),
+        ((λ held. absurd (free held)), λ _. (h.0, refl, refl, f.0, n.1, n.0 ∙ ap Some (sym h.2.1), h.2.0, (λ no. h.2.2 (omega arith)), λ zero' whole. sym (r.lasts.2 free) ∙ ap (λ (u : View E C). u.word) (only_seat s r id m.0 at rest.1 zero' whole))),
       ))
 
   -- a seat that holds is the only one, and has seen the whole history
@@ -110,7 +117,8 @@ module _ {K E C : Type 0} (stands : K → List (Made E) → Type 0) (pending : K
           wide = length-set s.words 1 added ∙ wide;
           owner = subst (λ (k : ℕ). k < 3) (sym still) r.owner;
           count = get_or-set_same s.words 1 added 0 (omega arith) ∙ counted;
-          held = λ _. (w, set_here s.views id w (at_below s.views id m.0 at), holds, (r.held o.0).3);
+          last = w;
+          lasts = (set_here s.views id w (at_below s.views id m.0 at), some_step, (λ no. absurd (no (still ∙ o.0))), λ _. (holds, (r.lasts.3 o.0).1));
           home = λ no. absurd (no (still ∙ o.0));
           only = each_set (λ j u. u.holds ≡ true → (get_or (set s.words 1 added) 0 0 ≡ 1) × (j ≡ id) × (u.seen ≡ h)) s.views id w
               (λ _. (still ∙ o.0, refl, ap (λ (l : List (Made E)). l ++ e ∷ []) o.2)) (λ j u other at' h'. absurd (holder_is s r id m.0 at holds j u other at' h'));
@@ -138,9 +146,9 @@ module _ {K E C : Type 0} (stands : K → List (Made E) → Type 0) (pending : K
     where
       leaves : Allows Rule slots id (v, (0, Some value) ∷ more) 0 (λ _. to) (λ _. Left (step slots 0 to 0 none) (v, (0, Some value) ∷ more) to)
       leaves s r long at small =
-          let wide = r.wide in let three = ending.2 in let o = r.only id v at holds in let f = r.fits id v at in let n = f.2 some_step in let w : View E C = record v { holds = false } in
+          let wide = r.wide in let three = ending.2 in let o = r.only id v at holds in let f = r.fits id v at in let n = f.2 some_step in let w : View E C = record v { holds = false; word = to } in
           let now : get_or (set s.words 0 to) 0 0 ≡ to = get_or-set_same s.words 0 to 0 (omega arith) in
-          let out = (r.held o.0).3 in (
+          let out = (r.lasts.3 o.0).1 in (
             w,
             gives,
             tt,
@@ -150,7 +158,8 @@ module _ {K E C : Type 0} (stands : K → List (Made E) → Type 0) (pending : K
               wide = length-set s.words 0 to ∙ wide;
               owner = omega (arith, now);
               count = get_or-set_other s.words 0 1 to 0 (λ e. omega arith) ∙ r.count;
-              held = λ one. absurd (ending.3 (sym now ∙ one));
+              last = w;
+              lasts = (set_here s.views id w (at_below s.views id v at), some_step, (λ _. sym now), λ one. absurd (ending.3 (sym now ∙ one)));
               home = λ _. (value, set_here s.homes 0 (some (Some value)) (at_below s.homes 0 none out), (subst (stands value) o.2 ending.0, some_same (conf value) c (sym ending.1 ∙ n.0), λ is. ending.4 (sym now ∙ is)));
               only = each_set (λ j u. u.holds ≡ true → (get_or (set s.words 0 to) 0 0 ≡ 1) × (j ≡ id) × (u.seen ≡ r.history)) s.views id w
                   (λ no. cc) (λ j u other at' h'. absurd (holder_is s r id v at holds j u other at' h'));
@@ -160,22 +169,38 @@ module _ {K E C : Type 0} (stands : K → List (Made E) → Type 0) (pending : K
             refl,
           )
 
+  -- a pass stays one, and keeps the owner word that it knows
+  abbrev Keeps : View E C → View E C → Type 0
+  Keeps v w = 0 < v.step → (0 < w.step) × (w.word ≡ v.word)
+
+  keeps_same : (v : View E C) → Keeps v v
+  keeps_same v p = (p, refl)
+
+  last_set : (s : St) (r : Rule s) (id : ℕ) (v w : View E C) → get_elem? s.views id ≡ some v → v.holds ≡ false → Keeps v w
+      → (u : View E C) × IsLast stands pending conf (record { words = s.words; homes = s.homes; views = set s.views id w }) r.holder u
+  last_set s r id v w at idle keep = let x = r.last in let l = r.lasts in dite (ℕ_discrete r.holder id)
+      (λ same. let e : v ≡ x = same_place s.views id v x at (subst (λ (j : ℕ). get_elem? s.views j ≡ some x) same l.0) in let k = keep (subst (λ (u : View E C). 0 < u.step) (sym e) l.1) in (
+        w,
+        (
+          subst (λ (j : ℕ). get_elem? (set s.views id w) j ≡ some w) (sym same) (set_here s.views id w (at_below s.views id v at)),
+          k.0,
+          (λ free. k.1 ∙ (ap (λ (u : View E C). u.word) e ∙ l.2 free)),
+          λ one. absurd (not_both x.holds (l.3 one).0 (ap (λ (u : View E C). u.holds) (sym e) ∙ idle)),
+        ),
+      ))
+      (λ other. (x, (set_else s.views id r.holder w other ∙ l.0, l.1, l.2, l.3)))
+
   -- a seat's view changes, and nothing else
-  review : (s : St) (r : Rule s) (id : ℕ) (v w : View E C) → get_elem? s.views id ≡ some v → v.holds ≡ false → w.holds ≡ false → Fits c r.history w → OwnsOf v w
+  review : (s : St) (r : Rule s) (id : ℕ) (v w : View E C) → get_elem? s.views id ≡ some v → v.holds ≡ false → w.holds ≡ false → Fits c r.history w → OwnsOf v w → Keeps v w
       → Rule (record { words = s.words; homes = s.homes; views = set s.views id w })
-  review s r id v w at idle still fit o = record {
+  review s r id v w at idle still fit o k = record {
     history = r.history;
     holder = r.holder;
     wide = r.wide;
     owner = r.owner;
     count = r.count;
-    held = λ one. let h = r.held one in (
-      h.0,
-      set_else s.views id r.holder w (λ same. let e : v ≡ h.0 = same_place s.views id v h.0 at (subst (λ (j : ℕ). get_elem? s.views j ≡ some h.0) same h.1) in
-          not_both h.0.holds h.2 (ap (λ (u : View E C). u.holds) (sym e) ∙ idle)) ∙ h.1,
-      h.2,
-      h.3,
-    );
+    last = (last_set s r id v w at idle k).0;
+    lasts = (last_set s r id v w at idle k).1;
     home = r.home;
     only = each_set (λ j u. u.holds ≡ true → (owner s ≡ 1) × (j ≡ r.holder) × (u.seen ≡ r.history)) s.views id w (λ h. absurd (not_both w.holds h still)) (λ j u _ e. r.only j u e);
     fits = each_set (λ j u. Fits c r.history u) s.views id w fit (λ j u _ e. r.fits j u e);
@@ -191,7 +216,8 @@ module _ {K E C : Type 0} (stands : K → List (Made E) → Type 0) (pending : K
     wide = r.wide;
     owner = r.owner;
     count = r.count;
-    held = λ one. let h = r.held one in (h.0, at_longer s.views (w ∷ []) r.holder h.0 h.1, h.2, h.3);
+    last = r.last;
+    lasts = let l = r.lasts in (at_longer s.views (w ∷ []) r.holder r.last l.0, l.1, l.2, l.3);
     home = r.home;
     only = each_end (λ j u. u.holds ≡ true → (owner s ≡ 1) × (j ≡ r.holder) × (u.seen ≡ r.history)) s.views w (λ h. absurd (not_both w.holds h still)) (λ j u e. r.only j u e);
     fits = each_end (λ j u. Fits c r.history u) s.views w fit (λ j u e. r.fits j u e);
@@ -205,7 +231,7 @@ module _ {K E C : Type 0} (stands : K → List (Made E) → Type 0) (pending : K
     keeps,
     tt,
     subst (λ (l : List ℕ). Rule (record { words = l; homes = s.homes; views = set s.views id w })) (sym (stored_again s.words 1 (get_or s.words 1 0) (omega arith) refl))
-        (review s r id m.0 w at idle idle (starts_same r.history, (r.history, refl), λ _. (n.0, n.1, n.1)) (owns_same m.0)),
+        (review s r id m.0 w at idle idle (starts_same r.history, (r.history, refl), λ _. (n.0, n.1, n.1)) (owns_same m.0) (keeps_same m.0)),
     (refl, refl, f.0, f.1, n.1),
   )
 
@@ -213,7 +239,7 @@ module _ {K E C : Type 0} (stands : K → List (Made E) → Type 0) (pending : K
   pub splits_pass : (id : ℕ) (v : View E C) → 0 < v.step → v.holds ≡ false → Splits Rule id v (divided v) (granted v)
   unfolding review
   splits_pass id v some_step idle s r at = let f = r.fits id v at in let n = f.2 some_step in
-      let first = review s r id v (divided v) at idle idle (f.0, f.1, λ _. (n.0, divided_mine v r.history n.1, divided_mine v v.seen n.2)) (λ _. (some_step, λ k. (2 * k, divided_owns v k))) in
+      let first = review s r id v (divided v) at idle idle (f.0, f.1, λ _. (n.0, divided_mine v r.history n.1, divided_mine v v.seen n.2)) (λ _. (some_step, λ k. (2 * k, divided_owns v k))) (λ _. (omega arith, refl)) in
       enrol (record { words = s.words; homes = s.homes; views = set s.views id (divided v) }) first (granted v) idle
       (f.0, f.1, λ _. (n.0, granted_mine v r.history n.1, granted_mine v v.seen n.2))
       (each_set (λ j u. Apart u (granted v)) s.views id (divided v)
@@ -227,13 +253,13 @@ module _ {K E C : Type 0} (stands : K → List (Made E) → Type 0) (pending : K
       (enrol s r (bare v.seen) refl (f.0, (r.history, refl), λ p. absurd (omega arith)) (λ j u e p q. absurd (omega arith)))
 
   -- the join of a note, which a pass keeps until it looks
-  pub joins_note : (id : ℕ) (v : View E C) (other : ℕ) (w : View E C) → v.holds ≡ false → w.holds ≡ false → Joins Rule id v other w (informed v w) (bare [])
+  pub joins_note : (id : ℕ) (v : View E C) (other : ℕ) (w : View E C) → v.holds ≡ false → w.holds ≡ false → w.step ≡ 0 → Joins Rule id v other w (informed v w) (bare [])
   unfolding review
-  joins_note id v other w idle still s r at differ there = let f = r.fits id v at in let both : View E C = informed v w in
+  joins_note id v other w idle still unnumbered s r at differ there = let f = r.fits id v at in let both : View E C = informed v w in
       let g = r.fits other w (sym (set_else s.views id other both differ) ∙ there) in
-      let first = review s r id v both at idle idle (f.0, g.0, f.2) (owns_same v) in
+      let first = review s r id v both at idle idle (f.0, g.0, f.2) (owns_same v) (keeps_same v) in
       review (record { words = s.words; homes = s.homes; views = set s.views id both }) first other w (bare []) there still refl
-      ((r.history, refl), (r.history, refl), λ p. absurd (omega arith)) (λ p. absurd (omega arith))
+      ((r.history, refl), (r.history, refl), λ p. absurd (omega arith)) (λ p. absurd (omega arith)) (λ p. absurd (omega arith))
 
   -- the table at its start
   pub opens : (value : K) → stands value [] → pending value ≡ false → conf value ≡ c → Rule (opening (0 ∷ 0 ∷ []) (Some value ∷ []) (first_view c))
@@ -243,7 +269,8 @@ module _ {K E C : Type 0} (stands : K → List (Made E) → Type 0) (pending : K
     wide = refl;
     owner = omega arith;
     count = refl;
-    held = λ one. absurd (omega arith);
+    last = first_view c;
+    lasts = (refl, omega arith, (λ _. refl), λ one. absurd (omega arith));
     home = λ _. (value, refl, (stood, named, λ _. settled));
     only = each_end (λ j u. u.holds ≡ true → (0 ≡ 1) × (j ≡ 0) × (u.seen ≡ [])) [] (first_view c) (λ h. absurd (not_both false h refl)) (λ j u e. absurd (some-ne-none u (sym e)));
     fits = each_end (λ j u. Fits c [] u) [] (first_view c) (([], refl), ([], refl), λ _. (refl, (refl, λ k. refl), (refl, λ k. refl))) (λ j u e. absurd (some-ne-none u (sym e)));

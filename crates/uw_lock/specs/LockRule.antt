@@ -28,6 +28,7 @@ pub record Known (E C : Type 0) : Type 0 where
   pub seen : List (Made E)
   pub mine : List (Made E)
   pub conf : Option C
+  pub word : ℕ
 
 -- what a contract sees of a turn
 pub record Held (K E C : Type 0) : Type 0 where
@@ -37,7 +38,7 @@ pub record Held (K E C : Type 0) : Type 0 where
 
 module _ {E C : Type 0} where
   abbrev pub known : TableId → View E C → Known E C
-  known lock v = record { lock = lock; number = v.number; step = v.step; seen = v.seen; mine = v.mine; conf = v.conf }
+  known lock v = record { lock = lock; number = v.number; step = v.step; seen = v.seen; mine = v.mine; conf = v.conf; word = v.word }
 
   -- the k-th number that a pass owns: it writes under the first, and gives away others
   abbrev pub owned : Known E C → ℕ → ℕ
@@ -47,6 +48,10 @@ module _ {E C : Type 0} where
   abbrev pub HasOwn : Known E C → Type 0
   HasOwn p = entries_by p.number p.seen ≡ p.mine
 
+  -- it owns every number, so there is no other pass
+  abbrev pub IsOnly : Known E C → Type 0
+  IsOnly p = (p.number ≡ 0) × (p.step ≡ 1)
+
   abbrev pub owns : View E C → ℕ → ℕ
   owns v k = v.number + k * v.step
 
@@ -55,7 +60,7 @@ module _ {E C : Type 0} where
   HasJustMine v history = (entries_by v.number history ≡ v.mine) × ((k : ℕ) → entries_by (owns v (k + 1)) history ≡ [])
 
   abbrev pub first_view : C → View E C
-  first_view c = record { number = 0; step = 1; seen = []; told = []; mine = []; conf = Some c; holds = false }
+  first_view c = record { number = 0; step = 1; seen = []; told = []; mine = []; conf = Some c; holds = false; word = 0 }
 
   -- a pass that gives away every second of its numbers keeps the others
   abbrev pub divided : View E C → View E C
@@ -66,7 +71,7 @@ module _ {E C : Type 0} where
 
   -- what was seen, with no number and no configuration
   abbrev pub bare : List (Made E) → View E C
-  bare seen = record { number = 0; step = 0; seen = seen; told = []; mine = []; conf = None; holds = false }
+  bare seen = record { number = 0; step = 0; seen = seen; told = []; mine = []; conf = None; holds = false; word = 0 }
 
   abbrev pub note_of : View E C → View E C
   note_of v = bare v.seen
@@ -121,6 +126,11 @@ module _ {K E C : Type 0} (stands : K → List (Made E) → Type 0) (pending : K
   abbrev pub IsFit : C → List (Made E) → ℕ → K → Type 0
   IsFit c history owner value = stands value history × (conf value ≡ c) × (owner ≡ 0 → pending value ≡ false)
 
+  -- the last holder is a pass, and knows the owner word; where that is 1, it holds the lock still, and the slot is out with it
+  abbrev pub IsLast : State (Option K) (View E C) → ℕ → View E C → Type 0
+  IsLast s holder v = (get_elem? s.views holder ≡ some v) × (0 < v.step)
+      × (slice_index s.words 0 ≢ 1 → v.word ≡ slice_index s.words 0) × (slice_index s.words 0 ≡ 1 → (v.holds ≡ true) × (get_elem? s.homes 0 ≡ some none))
+
   -- all that is true between two steps
   pub record HoldsHistory (c : C) (s : State (Option K) (View E C)) : Type 0 where
     pub history : List (Made E)
@@ -128,9 +138,9 @@ module _ {K E C : Type 0} (stands : K → List (Made E) → Type 0) (pending : K
     pub wide : length s.words ≡ 2
     pub owner : slice_index s.words 0 < 3
     pub count : slice_index s.words 1 ≡ length history % 2 ^ 64
-    -- at 1 a seat holds the lock, and the slot is out with it
-    pub held : slice_index s.words 0 ≡ 1 → (v : View E C) × (get_elem? s.views holder ≡ some v) × (v.holds ≡ true) × (get_elem? s.homes 0 ≡ some none)
-    -- else the slot is at home
+    pub last : View E C
+    pub lasts : IsLast s holder last
+    -- where the owner word isn't 1, the slot is at home
     pub home : slice_index s.words 0 ≢ 1 → (value : K) × (get_elem? s.homes 0 ≡ some (some (Some value))) × IsFit c history (slice_index s.words 0) value
     pub only : OnlyHolder history (slice_index s.words 0) holder s.views
     pub fits : AllFit c history s.views
@@ -147,8 +157,8 @@ module _ {K E C : Type 0} (stands : K → List (Made E) → Type 0) (pending : K
   -- what the swap that tries to take the lock tells where it did
   abbrev pub Took : Me (Option K) (View E C) → ℕ → Me (Option K) (View E C) → Type 0
   Took m found n =
-      (value : K) × (n.1 ≡ (0, Some value) ∷ m.1) × (n.0 ≡ record m.0 { seen = n.0.seen; holds = true }) × StartsWith n.0.seen m.0.seen × HasJustMine n.0 n.0.seen
-      × (n.0.conf ≡ Some (conf value)) × stands value n.0.seen × (found ≢ 2 → pending value ≡ false)
+      (value : K) × (n.1 ≡ (0, Some value) ∷ m.1) × (n.0 ≡ record m.0 { seen = n.0.seen; holds = true; word = found }) × StartsWith n.0.seen m.0.seen × HasJustMine n.0 n.0.seen
+      × (n.0.conf ≡ Some (conf value)) × stands value n.0.seen × (found ≢ 2 → pending value ≡ false) × (m.0.number ≡ 0 → m.0.step ≡ 1 → found ≡ m.0.word)
 
   abbrev pub Taken : Step (Option K) → Me (Option K) (View E C) → ℕ → Me (Option K) (View E C) → Type 0
   Taken st m found n = (found ≡ 1 → n ≡ m) × (found ≢ 1 → Took m found n)
@@ -156,8 +166,8 @@ module _ {K E C : Type 0} (stands : K → List (Made E) → Type 0) (pending : K
   -- the seat holds the lock, and its value is in hand
   abbrev pub HasTaken : Me (Option K) (View E C) → K → Bool → Me (Option K) (View E C) → Type 0
   HasTaken m value dead n =
-      (n.1 ≡ (0, None) ∷ []) × (n.0 ≡ record m.0 { seen = n.0.seen; holds = true }) × StartsWith n.0.seen m.0.seen × HasJustMine n.0 n.0.seen
-      × (n.0.conf ≡ Some (conf value)) × stands value n.0.seen × (dead ≡ false → pending value ≡ false)
+      (n.1 ≡ (0, None) ∷ []) × (n.0 ≡ record m.0 { seen = n.0.seen; holds = true; word = n.0.word }) × StartsWith n.0.seen m.0.seen × HasJustMine n.0 n.0.seen
+      × (n.0.conf ≡ Some (conf value)) × stands value n.0.seen × (dead ≡ (n.0.word == 2)) × (n.0.word ≢ 2 → pending value ≡ false) × (m.0.number ≡ 0 → m.0.step ≡ 1 → n.0.word ≡ m.0.word)
 
 module _ {K E C : Type 0} where
   -- the history so far was seen
@@ -171,14 +181,15 @@ module _ {K E C : Type 0} where
 
   -- the slot went home
   abbrev pub Left : Step (Option K) → Me (Option K) (View E C) → ℕ → Me (Option K) (View E C) → Type 0
-  Left st m found n = n ≡ (record m.0 { holds = false }, rest m.1)
+  Left st m found n = n ≡ (record m.0 { holds = false; word = st.first }, rest m.1)
 
   -- a seat after a note
   abbrev pub noted : Me (Option K) (View E C) → ℕ → E → Me (Option K) (View E C)
   noted m moment entry = (with_entry m.0 (made m.0.number moment entry), m.1)
 
-  abbrev pub left_view : TableId → Me (Option K) (View E C) → Known E C
-  left_view lock m = known lock m.0
+-- a pass that left the owner word so
+abbrev pub left_at : {E C : Type 0} → ℕ → Known E C → Known E C
+left_at word p = record p { word = word }
 
 -- the value may be left with this owner word
 abbrev pub IsEnding : {K E C : Type 0} → (K → List (Made E) → Type 0) → (K → Bool) → (K → C) → View E C → ℕ → K → Type 0

@@ -24,4 +24,6 @@ pub struct View<E, C> {
     pub conf: Option<C>,
     /// Whether it holds the lock.
     pub holds: bool,
+    /// The owner word as it found it when it last took the lock, or as it left it.
+    pub word: u64,
 }

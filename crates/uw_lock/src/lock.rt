@@ -1,9 +1,9 @@
 // The lock.
-ghost use Rattle.std.specs.Prelude.{◌≡◌, ◌≢◌, ◌+◌, ◌*◌, [], false, Some, IfOk, IfErr, IfSome, IfNone};
+ghost use Rattle.std.specs.Prelude.{◌≡◌, ◌≢◌, ◌==◌, ◌+◌, ◌*◌, [], false, Some, IfOk, IfErr, IfSome, IfNone};
 ghost use Rattle.std.specs.Slots.{slots_items, slots_len, IsFull};
 ghost use mathlib.Core.Option.{some};
 ghost use lib.ListN.{get_elem?};
-ghost use Rattle.uw_lock.specs.LockRule.{StartsWith, HasOwn, owned, IsAtRest, HasTaken, IsWhole, IsLeftHeld};
+ghost use Rattle.uw_lock.specs.LockRule.{StartsWith, HasOwn, owned, IsAtRest, HasTaken, IsWhole, IsLeftHeld, IsOnly};
 
 use crate::kept::Kept;
 use crate::pass::Pass;
@@ -40,7 +40,7 @@ impl<K: Kept> RobustLock<K> {
     pub fn new(alloc: Global, value: K) -> Result<(RobustLock<K>, Pass<K>), K>
         requires stands { K.stands value [] }
         requires settled { K.pending value ≡ false }
-        ensures ok { IfOk result (λ r. r.1 ≡ record { lock = r.0; number = 0; step = 1; seen = []; mine = []; conf = Some (K.conf value) }) }
+        ensures ok { IfOk result (λ r. r.1 ≡ record { lock = r.0; number = 0; step = 1; seen = []; mine = []; conf = Some (K.conf value); word = 0 }) }
         ensures err { IfErr result (λ v. v ≡ value) }
     {
         let about = Snapshot::of(&value);
@@ -106,12 +106,14 @@ impl<K: Kept> RobustLock<K> {
     /// Waits until the lock is got.
     pub fn turn<R: Wait>(&self, rt: &R, pass: Pass<K>) -> Turn<'_, K>
         requires { pass.lock ≡ self.now }
-        ensures pass { result.pass ≡ record pass { seen = result.pass.seen } }
+        ensures pass { result.pass ≡ record pass { seen = result.pass.seen; word = result.pass.word } }
         ensures seen { StartsWith result.pass.seen pass.seen }
         ensures own { HasOwn result.pass }
         ensures conf { result.pass.conf ≡ Some (K.conf result.value) }
         ensures stands { K.stands result.value result.pass.seen }
+        ensures dead { result.was_dead ≡ (result.pass.word == 2) }
         ensures settled { result.was_dead ≡ false → K.pending result.value ≡ false }
+        ensures alone { IsOnly pass → result.pass.word ≡ pass.word }
     {
         let mut seat = pass.into_seat();
         for _ in rt.forever() {

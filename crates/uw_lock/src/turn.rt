@@ -1,7 +1,7 @@
 // A turn: the lock, held.
 ghost use Rattle.std.specs.Prelude.{◌≡◌, ℕ, [], ◌∷◌, ◌++◌, false, Some, Option};
 ghost use Rattle.std.specs.Borrow.{Lends, sem};
-ghost use Rattle.uw_lock.specs.LockRule.{IsHolding, IsEnding, HasOwn, made, with_note, noted, left_view};
+ghost use Rattle.uw_lock.specs.LockRule.{IsHolding, IsEnding, HasOwn, made, with_note, noted, left_at, known};
 
 use crate::entries::View;
 use crate::kept::Kept;
@@ -70,7 +70,7 @@ impl<'a, K: Kept> Turn<'a, K> {
         requires conf { self.pass.conf ≡ Some (K.conf self.value) }
         requires stands { K.stands self.value self.pass.seen }
         requires settled { K.pending self.value ≡ false }
-        ensures pass { result ≡ self.entry.pass }
+        ensures pass { result ≡ left_at 0 self.entry.pass }
         ensures own { HasOwn result }
     {
         let Turn {
@@ -87,7 +87,7 @@ impl<'a, K: Kept> Turn<'a, K> {
     pub fn leave_dead(self) -> Pass<K>
         requires conf { self.pass.conf ≡ Some (K.conf self.value) }
         requires stands { K.stands self.value self.pass.seen }
-        ensures pass { result ≡ self.entry.pass }
+        ensures pass { result ≡ left_at 2 self.entry.pass }
         ensures own { HasOwn result }
     {
         let Turn {
@@ -122,7 +122,7 @@ fn end<K: Kept>(steps: &Steps<K>, mut seat: Place<K>, value: K, owner: u64) -> P
     requires table { (seat.table_id ≡ steps.now.table_id) × (steps.now.table_id.words ≡ 2) × (steps.now.table_id.slots ≡ 1) }
     requires holding { IsHolding seat.me }
     requires fit { IsEnding K.stands K.pending K.conf seat.me.0 owner value }
-    ensures pass { result ≡ left_view seat.table_id seat.me }
+    ensures pass { result ≡ left_at owner (known seat.table_id seat.me.0) }
     ensures own { HasOwn result }
 {
     drop(steps.exchange(&mut seat, 0, Some(value)));

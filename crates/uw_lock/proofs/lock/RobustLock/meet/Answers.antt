@@ -11,7 +11,7 @@ join_seat-requires g c = let words = c.self.invariant.0 in let note = c.split_se
   search rules,
   ap (λ m. m.1) note.4,
   omega (arith, words),
-  joins_note g.K.Kept.stands g.K.Kept.pending g.K.Kept.conf _ _ _ _ _ c.a.invariant.2 (ap (λ m. m.0.holds) note.4),
+  joins_note g.K.Kept.stands g.K.Kept.pending g.K.Kept.conf _ _ _ _ _ c.a.invariant.2 (ap (λ m. m.0.holds) note.4) (ap (λ m. m.0.step) note.4),
 )
 
 pub load-requires : goal.load-requires
