@@ -1,10 +1,10 @@
 -- Histories: how one begins another, and the entries of a number.
-use Rattle.std.proofs.Common.{◌≡◌, ◌≢◌, ℕ, suc, ◌+◌, ◌*◌, ◌<◌, ◌≤◌, Bool, true, false, if◌then◌else◌, eqb, List, [], ◌∷◌, ◌++◌, length, sym, refl, ap, ◌∙◌, subst, arith, mul-le-mul_right, suc-mul}
+use Rattle.std.proofs.Common.{◌≡◌, ◌≢◌, ℕ, suc, ◌+◌, ◌-◌, ◌*◌, ◌<◌, ◌≤◌, Bool, true, false, if◌then◌else◌, eqb, List, [], ◌∷◌, ◌++◌, length, sym, refl, ap, ◌∙◌, subst, arith, mul-le-mul_right, suc-mul}
 use Rattle.std.proofs.lemmas.Bool.{eq-eqb, ne_eqb}
 use Rattle.std.proofs.lemmas.List.{append_assoc, append-nil}
 use Rattle.std.proofs.Math.Nat.{mul_assoc}
 use mathlib.Core.Logic.{dite}
-use native.Mathlib.Decide.{dec_le}
+use native.Mathlib.Decide.{dec_le, ℕ_discrete}
 use Rattle.uw_lock.specs.declared.entries.Made.{Made}
 use Rattle.uw_lock.specs.declared.entries.View.{View}
 use Rattle.uw_lock.specs.LockRule.{StartsWith, entries_by, owns, HasJustMine, divided, granted, with_entry}
@@ -30,6 +30,19 @@ module _ {E : Type 0} where
   pub entries_by-none : (n : ℕ) (e : Made E) → e.by ≢ n → entries_by n (e ∷ []) ≡ []
   entries_by-none n e other = ap (λ (b : Bool). if b then e ∷ [] else []) (ne_eqb e.by n other)
 
+  by_head_same : (n : ℕ) (x : Made E) (xs : List (Made E)) → x.by ≡ n → entries_by n (x ∷ xs) ≡ x ∷ entries_by n xs
+  by_head_same n x xs e = ap (λ (b : Bool). if b then x ∷ entries_by n xs else entries_by n xs) (eq-eqb x.by n e)
+
+  by_head_other : (n : ℕ) (x : Made E) (xs : List (Made E)) → x.by ≢ n → entries_by n (x ∷ xs) ≡ entries_by n xs
+  by_head_other n x xs e = ap (λ (b : Bool). if b then x ∷ entries_by n xs else entries_by n xs) (ne_eqb x.by n e)
+
+  -- where no later number has an entry, all are of number 0
+  entries_by-all : (h : List (Made E)) → ((k : ℕ) → entries_by (k + 1) h ≡ []) → entries_by 0 h ≡ h
+  entries_by-all [] none = refl
+  entries_by-all (x ∷ xs) none = dite (ℕ_discrete x.by 0)
+      (λ first. by_head_same 0 x xs first ∙ ap (λ (l : List (Made E)). x ∷ l) (entries_by-all xs (λ k. sym (by_head_other (k + 1) x xs (λ e. let z = first in omega arith)) ∙ none k)))
+      (λ later. let e : x.by ≡ (x.by - 1) + 1 = omega arith in let f : x ∷ entries_by ((x.by - 1) + 1) xs ≡ [] = sym (by_head_same ((x.by - 1) + 1) x xs e) ∙ none (x.by - 1) in absurd cc)
+
 -- the numbers of two halves: each half has every second number
 twice : (k s : ℕ) → k * (2 * s) ≡ (2 * k) * s
 twice k s = let e : k * 2 ≡ 2 * k = omega arith in sym (mul_assoc k 2 s) ∙ ap (λ (n : ℕ). n * s) e
@@ -49,6 +62,10 @@ module _ {E C : Type 0} where
 
   pub owns_any : (v : View E C) (n : ℕ) → v.number ≡ 0 → v.step ≡ 1 → owns v n ≡ n
   owns_any v n first whole = (λ i. first i + n * whole i) ∙ omega arith
+
+  -- where a view owns every number, the history is its own entries
+  pub all_mine : (v : View E C) (h : List (Made E)) → v.number ≡ 0 → v.step ≡ 1 → HasJustMine v h → h ≡ v.mine
+  all_mine v h first whole f = sym (entries_by-all h (λ k. subst (λ (n : ℕ). entries_by n h ≡ []) (owns_any v (k + 1) first whole) (f.1 k))) ∙ (ap (λ (n : ℕ). entries_by n h) (sym first) ∙ f.0)
 
   -- a view's numbers differ from one another
   pub owns_differ : (v : View E C) (i j : ℕ) → 0 < v.step → i < j → owns v i ≢ owns v j

@@ -1,5 +1,5 @@
 -- Each kind of step keeps the rule, and tells what it is to tell.
-use Rattle.std.proofs.Common.{◌≡◌, ◌≢◌, ℕ, zero, suc, ◌+◌, ◌*◌, ◌%◌, ◌^◌, ◌<◌, ◌⊎◌, Bool, true, false, List, [], ◌∷◌, ◌++◌, map, length, get_or, set, Option, Some, None, IfSome, IfNone, sym, refl, ap, ◌∙◌, subst, inl, inr, ⊎_elim, arith, length-set, get_or-set_same, get_or-set_other}
+use Rattle.std.proofs.Common.{◌≡◌, ◌≢◌, ℕ, zero, suc, ◌+◌, ◌*◌, ◌%◌, ◌^◌, ◌<◌, ◌⊎◌, Bool, true, false, List, [], ◌∷◌, ◌++◌, map, length, get_or, set, Option, Some, None, IfSome, IfNone, IsSome, sym, refl, ap, ◌∙◌, subst, inl, inr, ⊎_elim, arith, length-set, get_or-set_same, get_or-set_other}
 use mathlib.Core.Logic.{dite}
 use mathlib.Core.Option.{some, none, some-ne-none, some-injective}
 use native.Mathlib.Decide.{ℕ_discrete}
@@ -12,7 +12,7 @@ use Rattle.atomic_table.proofs.Lists.{set_here, set_else, set_again, at_longer}
 use Rattle.uw_lock.specs.declared.entries.Made.{Made}
 use Rattle.uw_lock.specs.declared.entries.View.{View}
 use Rattle.uw_lock.specs.LockRule.{StartsWith, owns, HasJustMine, first_view, with_entry, IsAtRest, IsHolding, IsFit, Fits, HoldsHistory, Took, Taken, Looked, Noted, Left, IsEnding, IsLast, IsWhole, IsLeftHeld, known, made, divided, granted, bare, informed}
-use Rattle.uw_lock.proofs.Histories.{starts_same, starts_longer, noted_mine, other_mine, owns-zero, owns_any, divided_owns, granted_owns, divided_mine, granted_mine, halves_differ}
+use Rattle.uw_lock.proofs.Histories.{starts_same, starts_longer, noted_mine, other_mine, owns-zero, owns_any, all_mine, divided_owns, granted_owns, divided_mine, granted_mine, halves_differ}
 use Rattle.uw_lock.proofs.Seats.{at_below, at_end, same_place, each_set, each_end, Apart, OwnsOf, apart_set, apart_end}
 
 word_at : (l : List ℕ) (i : ℕ) → i < length l → get_elem? l i ≡ some (get_or l i 0)
@@ -31,6 +31,10 @@ if_some P Q (Some x) f h = f x h
 pub if_none : {A : Type 0} (P Q : Type 0) (o : Option A) → (P → Q) → IfNone o P → IfNone o Q
 if_none P Q None f h = f h
 if_none P Q (Some x) f h = tt
+
+pub is_some : {A : Type 0} (P : Type 0) (o : Option A) → ¬ P → IfNone o P → IsSome o
+is_some P None f h = absurd (f h)
+is_some P (Some x) f h = refl
 
 not_both : (b : Bool) → b ≡ true → b ≡ false → ⊥
 not_both b is not = let e : true ≡ false = sym is ∙ not in cc
@@ -93,7 +97,23 @@ module _ {K E C : Type 0} (stands : K → List (Made E) → Type 0) (pending : K
           fits = each_set (λ j u. Fits c r.history u) s.views id w (starts_same r.history, f.1, λ p. (n.0, n.1, n.1)) (λ j u _ e. r.fits j u e);
           apart = apart_set s.views id m.0 w at r.apart (owns_same m.0);
         },
-        ((λ held. absurd (free held)), λ _. (h.0, refl, refl, f.0, n.1, n.0 ∙ ap Some (sym h.2.1), h.2.0, (λ no. h.2.2 (omega arith)), λ zero' whole. sym (r.lasts.2 free) ∙ ap (λ (u : View E C). u.word) (only_seat s r id m.0 at rest.1 zero' whole))),
+        (
+          (λ held. absurd (free held)),
+          λ _. (
+            h.0,
+            refl,
+            refl,
+            f.0,
+            n.1,
+            n.0 ∙ ap Some (sym h.2.1),
+            h.2.0,
+            (λ no. h.2.2 (omega arith)),
+            λ first whole. (
+              sym (r.lasts.2 free) ∙ ap (λ (u : View E C). u.word) (only_seat s r id m.0 at rest.1 first whole),
+              all_mine m.0 r.history first whole n.1 ∙ sym (all_mine m.0 m.0.seen first whole n.2),
+            ),
+          ),
+        ),
       ))
 
   -- a seat that holds is the only one, and has seen the whole history
@@ -102,7 +122,7 @@ module _ {K E C : Type 0} (stands : K → List (Made E) → Type 0) (pending : K
 
   -- the add to the count, by which an entry joins the history
   pub notes_entry : (slots id : ℕ) (m : M) (moment : ℕ) (entry : E) (announced : Option E) → 0 < m.0.step → m.0.holds ≡ true → announced ≡ Some entry
-      → Allows Rule slots id m 1 (λ n. (n + 1) % 2 ^ 64) (Noted moment announced (step slots 1 1 0 none) m)
+      → Allows Rule slots id m 1 (λ n. (n + 1) % 2 ^ 64) (Noted m.0.number moment announced (step slots 1 1 0 none) m)
   notes_entry slots id m moment entry announced some_step holds is s r long at small =
       let e : Made E = made m.0.number moment entry in let wide = r.wide in let o = r.only id m.0 at holds in let f = r.fits id m.0 at in let n = f.2 some_step in let w : View E C = with_entry m.0 e in let h : List (Made E) = r.history ++ e ∷ [] in
       let added : ℕ = (get_or s.words 1 0 + 1) % 2 ^ 64 in
@@ -299,3 +319,8 @@ module _ {K E C : Type 0} (stands : K → List (Made E) → Type 0) (pending : K
   closes_held lock id v ws xs idle f held = let wide = f.1.0.wide in
       let one : owner f.0 ≡ 1 = some-injective (owner f.0) 1 (sym (word_at f.0.words 0 (omega arith)) ∙ (ap (λ (l : List ℕ). get_elem? l 0) f.2 ∙ held)) in
       (c, f.0, id, v, f.1.0, one, f.1.1, refl, idle)
+
+  pub closes_alone : (id : ℕ) (v : View E C) (ws : List ℕ) (xs : List (Option K)) → 0 < v.step → v.holds ≡ false → v.number ≡ 0 → v.step ≡ 1 → Last id v ws xs → get_elem? ws 0 ≢ some 1
+  closes_alone id v ws xs some_step idle first whole f held = let s = f.0 in let r = f.1.0 in let wide = r.wide in
+      let one : owner s ≡ 1 = some-injective (owner s) 1 (sym (word_at s.words 0 (omega arith)) ∙ (ap (λ (l : List ℕ). get_elem? l 0) f.2 ∙ held)) in
+      not_both v.holds (ap (λ (u : View E C). u.holds) (sym (only_seat s r id v f.1.1 some_step first whole)) ∙ (r.lasts.3 one).0) idle

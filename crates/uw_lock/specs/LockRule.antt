@@ -158,7 +158,7 @@ module _ {K E C : Type 0} (stands : K → List (Made E) → Type 0) (pending : K
   abbrev pub Took : Me (Option K) (View E C) → ℕ → Me (Option K) (View E C) → Type 0
   Took m found n =
       (value : K) × (n.1 ≡ (0, Some value) ∷ m.1) × (n.0 ≡ record m.0 { seen = n.0.seen; holds = true; word = found }) × StartsWith n.0.seen m.0.seen × HasJustMine n.0 n.0.seen
-      × (n.0.conf ≡ Some (conf value)) × stands value n.0.seen × (found ≢ 2 → pending value ≡ false) × (m.0.number ≡ 0 → m.0.step ≡ 1 → found ≡ m.0.word)
+      × (n.0.conf ≡ Some (conf value)) × stands value n.0.seen × (found ≢ 2 → pending value ≡ false) × (m.0.number ≡ 0 → m.0.step ≡ 1 → (found ≡ m.0.word) × (n.0.seen ≡ m.0.seen))
 
   abbrev pub Taken : Step (Option K) → Me (Option K) (View E C) → ℕ → Me (Option K) (View E C) → Type 0
   Taken st m found n = (found ≡ 1 → n ≡ m) × (found ≢ 1 → Took m found n)
@@ -167,7 +167,7 @@ module _ {K E C : Type 0} (stands : K → List (Made E) → Type 0) (pending : K
   abbrev pub HasTaken : Me (Option K) (View E C) → K → Bool → Me (Option K) (View E C) → Type 0
   HasTaken m value dead n =
       (n.1 ≡ (0, None) ∷ []) × (n.0 ≡ record m.0 { seen = n.0.seen; holds = true; word = n.0.word }) × StartsWith n.0.seen m.0.seen × HasJustMine n.0 n.0.seen
-      × (n.0.conf ≡ Some (conf value)) × stands value n.0.seen × (dead ≡ (n.0.word == 2)) × (n.0.word ≢ 2 → pending value ≡ false) × (m.0.number ≡ 0 → m.0.step ≡ 1 → n.0.word ≡ m.0.word)
+      × (n.0.conf ≡ Some (conf value)) × stands value n.0.seen × (dead ≡ (n.0.word == 2)) × (n.0.word ≢ 2 → pending value ≡ false) × (m.0.number ≡ 0 → m.0.step ≡ 1 → (n.0.word ≡ m.0.word) × (n.0.seen ≡ m.0.seen))
 
 module _ {K E C : Type 0} where
   -- the history so far was seen
@@ -176,8 +176,8 @@ module _ {K E C : Type 0} where
       (n.1 ≡ m.1) × (n.0 ≡ record m.0 { seen = n.0.seen; told = [] }) × StartsWith n.0.seen m.0.seen × StartsWith n.0.seen m.0.told × HasJustMine n.0 n.0.seen
 
   -- the entry is the last of what was seen, and of the seat's own
-  abbrev pub Noted : ℕ → Option E → Step (Option K) → Me (Option K) (View E C) → ℕ → Me (Option K) (View E C) → Type 0
-  Noted moment entry st m found n = (e : E) → entry ≡ Some e → n ≡ (with_entry m.0 (made m.0.number moment e), m.1)
+  abbrev pub Noted : ℕ → ℕ → Option E → Step (Option K) → Me (Option K) (View E C) → ℕ → Me (Option K) (View E C) → Type 0
+  Noted number moment entry st m found n = (e : E) → entry ≡ Some e → n ≡ (with_entry m.0 (made number moment e), m.1)
 
   -- the slot went home
   abbrev pub Left : Step (Option K) → Me (Option K) (View E C) → ℕ → Me (Option K) (View E C) → Type 0

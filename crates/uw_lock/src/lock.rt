@@ -1,5 +1,5 @@
 // The lock.
-ghost use Rattle.std.specs.Prelude.{◌≡◌, ◌≢◌, ◌==◌, ◌+◌, ◌*◌, [], false, Some, IfOk, IfErr, IfSome, IfNone};
+ghost use Rattle.std.specs.Prelude.{◌≡◌, ◌≢◌, ◌==◌, ◌+◌, ◌*◌, [], false, Some, IfOk, IfErr, IfSome, IfNone, IsSome};
 ghost use Rattle.std.specs.Slots.{slots_items, slots_len, IsFull};
 ghost use mathlib.Core.Option.{some};
 ghost use lib.ListN.{get_elem?};
@@ -81,6 +81,7 @@ impl<K: Kept> RobustLock<K> {
         requires { pass.lock ≡ self }
         ensures value { IfSome result (λ v. IsWhole K.stands K.pending K.conf pass v) }
         ensures none { IfNone result (IsLeftHeld K.stands K.pending K.conf pass) }
+        ensures alone { IsOnly pass → IsSome result }
     {
         let RobustLock { table } = self;
         let seat = pass.into_seat();
@@ -113,7 +114,7 @@ impl<K: Kept> RobustLock<K> {
         ensures stands { K.stands result.value result.pass.seen }
         ensures dead { result.was_dead ≡ (result.pass.word == 2) }
         ensures settled { result.was_dead ≡ false → K.pending result.value ≡ false }
-        ensures alone { IsOnly pass → result.pass.word ≡ pass.word }
+        ensures alone { IsOnly pass → (result.pass.word ≡ pass.word) × (result.pass.seen ≡ pass.seen) }
     {
         let mut seat = pass.into_seat();
         for _ in rt.forever() {

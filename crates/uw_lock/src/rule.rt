@@ -86,7 +86,7 @@ pub struct Note<K, B> {
 }
 
 impl<K: Kept, B: Announced<K::Entry>> Play<Option<K>, View<K::Entry, K::Conf>> for Note<K, B> {
-    ghost then = { Noted B.moment B.entry };
+    ghost then = { λ st m. Noted m.0.number B.moment B.entry st m };
 }
 
 // The store of the owner word that leaves the lock.
