@@ -1,19 +1,19 @@
 -- Each kind of step keeps the rule, and tells what it is to tell.
-use Rattle.std.proofs.Common.{◌≡◌, ◌≢◌, ℕ, zero, suc, ◌+◌, ◌*◌, ◌%◌, ◌^◌, ◌<◌, ◌⊎◌, Bool, true, false, List, [], ◌∷◌, ◌++◌, map, length, get_or, set, Option, Some, None, IfSome, IfNone, IsSome, sym, refl, ap, ◌∙◌, subst, inl, inr, ⊎_elim, arith, length-set, get_or-set_same, get_or-set_other}
+use Rattle.std.proofs.Common.{◌≡◌, ◌≢◌, ℕ, zero, suc, ◌+◌, ◌*◌, ◌%◌, ◌^◌, ◌<◌, Bool, true, false, List, [], ◌∷◌, ◌++◌, length, get_or, set, Option, Some, None, IfSome, IfNone, IsSome, sym, refl, ap, ◌∙◌, subst, arith, length-set, get_or-set_same, get_or-set_other}
 use mathlib.Core.Logic.{dite}
 use mathlib.Core.Option.{some, none, some-ne-none, some-injective}
 use native.Mathlib.Decide.{ℕ_discrete}
 use lib.ListN.{get_elem?}
 use Rattle.std.proofs.Math.Nat.{mod-add-mod}
 use Rattle.std.proofs.lemmas.List.{length-append}
-use Rattle.atomic_table.specs.Table.{State, Me, Step, rest, step, keeps, takes, gives, stepped, opening, Final, Seen, Allows, Splits, Joins}
+use Rattle.atomic_table.specs.Table.{State, Me, rest, step, keeps, takes, gives, opening, Final, Seen, Allows, Splits, Joins}
 use Rattle.atomic_table.specs.Seated.{TableId}
 use Rattle.atomic_table.proofs.Lists.{set_here, set_else, set_again, at_longer}
 use Rattle.uw_lock.specs.declared.entries.Made.{Made}
 use Rattle.uw_lock.specs.declared.entries.View.{View}
-use Rattle.uw_lock.specs.LockRule.{StartsWith, owns, HasJustMine, first_view, with_entry, IsAtRest, IsHolding, IsFit, Fits, HoldsHistory, Took, Taken, Looked, Noted, Left, IsEnding, IsLast, IsWhole, IsLeftHeld, known, made, divided, granted, bare, informed}
+use Rattle.uw_lock.specs.LockRule.{StartsWith, first_view, with_entry, IsAtRest, Fits, HoldsHistory, Taken, Looked, Noted, Left, IsEnding, IsLast, IsWhole, IsLeftHeld, known, made, divided, granted, bare, informed}
 use Rattle.uw_lock.proofs.Histories.{starts_same, starts_longer, noted_mine, other_mine, owns-zero, owns_any, all_mine, divided_owns, granted_owns, divided_mine, granted_mine, halves_differ}
-use Rattle.uw_lock.proofs.Seats.{at_below, at_end, same_place, each_set, each_end, Apart, OwnsOf, apart_set, apart_end}
+use Rattle.uw_lock.proofs.Seats.{at_below, same_place, each_set, each_end, Apart, OwnsOf, apart_set, apart_end}
 
 word_at : (l : List ℕ) (i : ℕ) → i < length l → get_elem? l i ≡ some (get_or l i 0)
 word_at [] i h = absurd (omega arith)

@@ -1,8 +1,8 @@
 -- What a pass knows, from one call to the next.
-use Rattle.std.proofs.Common.{◌≡◌, ℕ, ◌<◌, ◌*◌, false, List, [], ◌∷◌, ◌++◌, Option, Some, None, refl, sym, ap, subst, arith}
+use Rattle.std.proofs.Common.{◌≡◌, ℕ, [], Option, refl, sym, subst, arith}
 use Rattle.atomic_table.specs.Table.{Me}
 use Rattle.uw_lock.specs.declared.entries.View.{View}
-use Rattle.uw_lock.specs.LockRule.{IsAtRest, IsHolding, HasJustMine, divided, granted, made, noted}
+use Rattle.uw_lock.specs.LockRule.{IsAtRest, IsHolding, divided, granted, made, noted}
 use Rattle.uw_lock.proofs.Histories.{divided_mine, granted_mine, noted_mine}
 
 module _ {K E C : Type 0} where

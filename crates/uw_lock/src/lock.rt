@@ -55,14 +55,8 @@ impl<K: Kept> RobustLock<K> {
         }
     }
 
-    pub(crate) fn steps(&self) -> &Steps<K>
-        ensures { (result.now.table_id ≡ self.now) × (self.now.words ≡ 2) × (self.now.slots ≡ 1) }
-    {
-        &self.table.shared
-    }
-
-    /// A further pass under a number of its own, which has seen what `from` has seen. The two share the numbers that
-    /// `from` could give away.
+    /// A further pass under a number of its own, which has seen what `from` has seen. The two divide the numbers that
+    /// `from` owned.
     pub fn pass(&self, from: &mut Pass<K>) -> Pass<K>
         requires { from.old.lock ≡ self.now }
         ensures from { from.new ≡ record from.old { step = 2 * from.old.step } }
@@ -75,36 +69,8 @@ impl<K: Kept> RobustLock<K> {
         }
     }
 
-    /// The value, which stands for the whole history. Nothing is given only where the owner word stands at 1, since a turn
-    /// of another pass was dropped without being left.
-    pub fn close(self, pass: Pass<K>) -> Option<K>
-        requires { pass.lock ≡ self }
-        ensures value { IfSome result (λ v. IsWhole K.stands K.pending K.conf pass v) }
-        ensures none { IfNone result (IsLeftHeld K.stands K.pending K.conf pass) }
-        ensures alone { IsOnly pass → IsSome result }
-    {
-        let RobustLock { table } = self;
-        let seat = pass.into_seat();
-        take_out(table.close_with(seat))
-    }
-
-    // One try to take the lock: the value, and whether the last holder died.
-    fn try_take(&self, seat: &mut Place<K>) -> Option<(K, bool)>
-        requires table { seat.old.table_id ≡ self.now }
-        requires rest { IsAtRest seat.old.me }
-        ensures same { seat.new.table_id ≡ seat.old.table_id }
-        ensures none { IfNone result (seat.new.me ≡ seat.old.me) }
-        ensures some { IfSome result (λ t. HasTaken K.stands K.pending K.conf seat.old.me t.0 t.1 seat.new.me) }
-    {
-        let found = self.table.shared.swap::<Take<K>>(seat, OWNER, HELD);
-        if found == HELD {
-            return None;
-        }
-        let value = self.table.shared.exchange(seat, 0, None).unwrap();
-        Some((value, found == DEAD))
-    }
-
-    /// Waits until the lock is got.
+    /// Waits until the lock is got. The pass has then seen the whole history, for which the value stands. Only where the
+    /// last holder died, an intent may be pending.
     pub fn turn<R: Wait>(&self, rt: &R, pass: Pass<K>) -> Turn<'_, K>
         requires { pass.lock ≡ self.now }
         ensures pass { result.pass ≡ record pass { seen = result.pass.seen; word = result.pass.word } }
@@ -143,6 +109,41 @@ impl<K: Kept> RobustLock<K> {
         let note = self.table.shared.split_seat::<Tell<K>>(&mut b.seat);
         self.table.shared.join_seat::<Tell<K>>(&mut a.seat, note);
         self.table.shared.load::<Look<K>>(&mut a.seat, COUNT);
+    }
+
+    /// The value, which stands for the whole history. `None` comes only where the lock is still held, since a turn of
+    /// another pass was dropped without being left.
+    pub fn close(self, pass: Pass<K>) -> Option<K>
+        requires { pass.lock ≡ self }
+        ensures value { IfSome result (λ v. IsWhole K.stands K.pending K.conf pass v) }
+        ensures none { IfNone result (IsLeftHeld K.stands K.pending K.conf pass) }
+        ensures alone { IsOnly pass → IsSome result }
+    {
+        let RobustLock { table } = self;
+        let seat = pass.into_seat();
+        take_out(table.close_with(seat))
+    }
+
+    pub(crate) fn steps(&self) -> &Steps<K>
+        ensures { (result.now.table_id ≡ self.now) × (self.now.words ≡ 2) × (self.now.slots ≡ 1) }
+    {
+        &self.table.shared
+    }
+
+    // One try to take the lock: the value, and whether the last holder died.
+    fn try_take(&self, seat: &mut Place<K>) -> Option<(K, bool)>
+        requires table { seat.old.table_id ≡ self.now }
+        requires rest { IsAtRest seat.old.me }
+        ensures same { seat.new.table_id ≡ seat.old.table_id }
+        ensures none { IfNone result (seat.new.me ≡ seat.old.me) }
+        ensures some { IfSome result (λ t. HasTaken K.stands K.pending K.conf seat.old.me t.0 t.1 seat.new.me) }
+    {
+        let found = self.table.shared.swap::<Take<K>>(seat, OWNER, HELD);
+        if found == HELD {
+            return None;
+        }
+        let value = self.table.shared.exchange(seat, 0, None).unwrap();
+        Some((value, found == DEAD))
     }
 }
 

@@ -6,8 +6,9 @@ use crate::kept::Kept;
 use crate::rule::Place;
 use std::marker::Model;
 
-/// The right to take turns at one lock, under a number of its own. Contracts see which lock it is of, its number, the
-/// history that its owner has seen, the list of its own entries, and the configuration of the locked value.
+/// The right to take turns at one lock, under a number of its own. Contracts see which lock it is of, its number and the
+/// step to the numbers that it may give away, the history that its owner has seen, the list of its own entries, the
+/// configuration of the locked value, and the owner word as the pass last found or left it.
 pub struct Pass<K: Kept> {
     pub(crate) seat: Place<K>,
 }

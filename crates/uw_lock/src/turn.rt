@@ -1,9 +1,8 @@
 // A turn: the lock, held.
-ghost use Rattle.std.specs.Prelude.{◌≡◌, ℕ, [], ◌∷◌, ◌++◌, false, Some, Option};
+ghost use Rattle.std.specs.Prelude.{◌≡◌, false, Some};
 ghost use Rattle.std.specs.Borrow.{Lends, sem};
-ghost use Rattle.uw_lock.specs.LockRule.{IsHolding, IsEnding, HasOwn, made, with_note, noted, left_at, known};
+ghost use Rattle.uw_lock.specs.LockRule.{IsHolding, IsEnding, HasOwn, with_note, noted, left_at, known};
 
-use crate::entries::View;
 use crate::kept::Kept;
 use crate::lock::RobustLock;
 use crate::pass::Pass;
@@ -39,7 +38,7 @@ impl<'a, K: Kept> Turn<'a, K> {
     ghost use Rattle.uw_lock.specs.contracts.turn.Turn.{the_row};
     ghost use Rattle.uw_lock.specs.LockRule.{with_value};
 
-    /// The value. What is written through it is what the lock is left with.
+    /// The value, to be read and changed. The lock is left with what stands there then.
     pub fn value(&mut self) -> &mut K
         ensures* lends { sem 𝓛 (Lends (the_row (record { mir = named 1; lft = [] }) K.row K.Entry.row K.Conf.row K.Kept) K.row self.entry result (with_value self.old)) }
         ensures value { result.now ≡ self.old.value }
@@ -49,7 +48,7 @@ impl<'a, K: Kept> Turn<'a, K> {
 }
 
 impl<'a, K: Kept> Turn<'a, K> {
-    /// Whether the last holder left by `leave_dead`. Where it did not, no intent is pending in the value that the turn began with.
+    /// Whether the last holder left by `leave_dead`.
     pub fn was_dead(&self) -> bool
         ensures { result ≡ self.now.was_dead }
     {
@@ -100,6 +99,7 @@ impl<'a, K: Kept> Turn<'a, K> {
     }
 }
 
+// The step of a note, which announces the entry of `B`.
 fn note_as<K: Kept, B: Announced<K::Entry>>(
     steps: &Steps<K>,
     seat: &mut Place<K>,

@@ -1,4 +1,4 @@
-use Rattle.std.proofs.Common.{rules, arith}
+use Rattle.std.proofs.Common.{arith}
 use Rattle.uw_lock.proofs.Steps.{notes_entry}
 use Rattle.uw_lock.proofs.turn.note_as.Goals as goal
 

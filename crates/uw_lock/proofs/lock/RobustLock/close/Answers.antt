@@ -1,4 +1,4 @@
-use Rattle.std.proofs.Common.{rules, subst, ap, ◌∙◌}
+use Rattle.std.proofs.Common.{subst, ap, ◌∙◌}
 use Rattle.uw_lock.specs.LockRule.{IsWhole, IsLeftHeld}
 use Rattle.uw_lock.proofs.Steps.{closes_home, closes_whole, closes_held, closes_alone, if_some, if_none, is_some}
 use Rattle.uw_lock.proofs.lock.RobustLock.close.Goals as goal

@@ -1,4 +1,4 @@
-use Rattle.std.proofs.Common.{rules, ◌≡◌, ◌<◌, false, sym, ap, ◌∙◌, subst, arith}
+use Rattle.std.proofs.Common.{rules, ◌<◌, sym, ap, ◌∙◌, subst, arith}
 use Rattle.uw_lock.proofs.Steps.{splits_note, joins_note, looks_up}
 use Rattle.uw_lock.proofs.lock.RobustLock.meet.Goals as goal
 

@@ -1,4 +1,4 @@
-use Rattle.std.proofs.Common.{rules, ◌≡◌, List, [], ◌∷◌, ◌++◌, Option, Some, sym, ap, refl, subst, ◌∙◌}
+use Rattle.std.proofs.Common.{◌≡◌, List, [], ◌∷◌, ◌++◌, Option, Some, sym, ap, refl, subst, ◌∙◌}
 use Rattle.atomic_table.specs.Table.{opening}
 use Rattle.uw_lock.specs.LockRule.{HoldsHistory, first_view}
 use Rattle.uw_lock.proofs.Steps.{opens}
