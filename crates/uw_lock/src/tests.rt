@@ -1,6 +1,7 @@
 // A register of the tests' own: it stands for the list of the values that were added to it.
 ghost use Rattle.std.specs.Prelude.{◌≡◌, ◌<◌, ◌++◌, ◌∷◌, [], List, map, false, true, IfOk, IfErr, OnOk, OnErr};
 ghost use Rattle.uw_lock.specs.declared.entries.Made.{Made};
+ghost use Rattle.uw_lock.specs.LockRule.{IsOnly};
 
 use super::*;
 use std::alloc::{AllocError, Global};
@@ -82,6 +83,24 @@ fn add_one<R: Wait>(
     (turn.leave(), was_dead)
 }
 
+// A pass that is the only one is told of its own death, and of no other: its contract says so.
+fn die_and_mend<R: Wait>(
+    rt: &R,
+    lock: &RobustLock<Register>,
+    pass: Pass<Register>,
+) -> (bool, bool, Pass<Register>)
+    requires { (pass.lock ≡ lock.now) × IsOnly pass }
+    ensures { (result.0 ≡ true) × (result.1 ≡ false) × (result.2.lock ≡ lock.now) }
+{
+    let turn = lock.turn(rt, pass);
+    let mut turn = lock.turn(rt, turn.leave_dead());
+    let died = turn.was_dead();
+    turn.value().mend();
+    let turn = lock.turn(rt, turn.leave());
+    let died_again = turn.was_dead();
+    (died, died_again, turn.leave())
+}
+
 const EACH: u64 = 100;
 
 // Adds a hundred values, each in a turn of its own.
@@ -126,7 +145,7 @@ fn add_beside<R: Threads + Wait + Sync>(
 }
 
 fn opened(alloc: Global) -> Result<(RobustLock<Register>, Pass<Register>), AllocError>
-    ensures { IfOk result (λ r. r.1.lock ≡ r.0) }
+    ensures { IfOk result (λ r. (r.1.lock ≡ r.0) × IsOnly r.1) }
 {
     match RobustLock::new(alloc, Register::new(alloc, 7)) {
         Ok(made) => Ok(made),
@@ -158,6 +177,8 @@ fn two_threads_lose_no_entry(rt: HostRuntime) -> Result<(), Fail> {
 #[test]
 fn a_death_is_told_to_the_next_holder(rt: HostRuntime) -> Result<(), Fail> {
     let (lock, pass) = opened(rt.alloc())?;
+    let (died, died_again, pass) = die_and_mend(&rt, &lock, pass);
+    assert!(rt; died && !died_again);
     let (pass, first) = add_one(&rt, &lock, pass, 1);
     let (pass, after_leave) = add_one(&rt, &lock, pass, 2);
     assert!(rt; !first && !after_leave);
