@@ -266,16 +266,16 @@ module _ {K E C : Type 0} (stands : K → List (Made E) → Type 0) (pending : K
       (λ p q k l same. halves_differ v k l some_step same)
       (λ j u other e p q k l same. r.apart j id u v e at other p some_step k (2 * l + 1) (same ∙ granted_owns v l)))
 
-  -- the split that cuts off a note of what was seen
-  pub splits_note : (id : ℕ) (v : View E C) → v.holds ≡ false → Splits Rule id v v (bare v.seen)
-  splits_note id v idle s r at = let f = r.fits id v at in
+  -- the split that cuts off a message with what was seen
+  pub splits_message : (id : ℕ) (v : View E C) → v.holds ≡ false → Splits Rule id v v (bare v.seen)
+  splits_message id v idle s r at = let f = r.fits id v at in
       subst (λ (l : List (View E C)). Rule (record { words = s.words; homes = s.homes; views = l ++ bare v.seen ∷ [] })) (sym (set_again s.views id v at))
       (enrol s r (bare v.seen) refl (f.0, (r.history, refl), λ p. absurd (omega arith)) (λ j u e p q. absurd (omega arith)))
 
-  -- the join of a note, which a pass keeps until it looks
-  pub joins_note : (id : ℕ) (v : View E C) (other : ℕ) (w : View E C) → v.holds ≡ false → w.holds ≡ false → w.step ≡ 0 → Joins Rule id v other w (informed v w) (bare [])
+  -- the join of a message, which a pass keeps until it looks
+  pub joins_message : (id : ℕ) (v : View E C) (other : ℕ) (w : View E C) → v.holds ≡ false → w.holds ≡ false → w.step ≡ 0 → Joins Rule id v other w (informed v w) (bare [])
   unfolding review
-  joins_note id v other w idle still unnumbered s r at differ there = let f = r.fits id v at in let both : View E C = informed v w in
+  joins_message id v other w idle still unnumbered s r at differ there = let f = r.fits id v at in let both : View E C = informed v w in
       let g = r.fits other w (sym (set_else s.views id other both differ) ∙ there) in
       let first = review s r id v both at idle idle (f.0, g.0, f.2) (owns_same v) (keeps_same v) in
       review (record { words = s.words; homes = s.homes; views = set s.views id both }) first other w (bare []) there still refl

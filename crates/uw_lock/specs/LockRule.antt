@@ -69,12 +69,12 @@ module _ {E C : Type 0} where
   abbrev pub granted : View E C → View E C
   granted v = record v { number = v.number + v.step; step = 2 * v.step; mine = [] }
 
-  -- what was seen, with no number and no configuration
+  -- what was seen, with no number and no configuration: a message, or the spent view that is left of it
   abbrev pub bare : List (Made E) → View E C
   bare seen = record { number = 0; step = 0; seen = seen; told = []; mine = []; conf = None; holds = false; word = 0 }
 
-  abbrev pub note_of : View E C → View E C
-  note_of v = bare v.seen
+  abbrev pub message_of : View E C → View E C
+  message_of v = bare v.seen
 
   abbrev pub informed : View E C → View E C → View E C
   informed v w = record v { told = w.seen }

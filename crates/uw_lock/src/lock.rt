@@ -106,8 +106,8 @@ impl<K: Kept> RobustLock<K> {
         ensures met { StartsWith a.new.seen b.new.seen }
         ensures own { HasOwn a.new × HasOwn b.new }
     {
-        let note = self.table.shared.split_seat::<Tell<K>>(&mut b.seat);
-        self.table.shared.join_seat::<Tell<K>>(&mut a.seat, note);
+        let message = self.table.shared.split_seat::<Tell<K>>(&mut b.seat);
+        self.table.shared.join_seat::<Tell<K>>(&mut a.seat, message);
         self.table.shared.load::<Look<K>>(&mut a.seat, COUNT);
     }
 

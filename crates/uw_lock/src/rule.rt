@@ -1,6 +1,6 @@
 // The rule of the lock's table, and what each kind of step tells the seat that makes it.
 ghost use Rattle.std.specs.Prelude.{ℕ, Option, None};
-ghost use Rattle.uw_lock.specs.LockRule.{HoldsHistory, first_view, Taken, Looked, Noted, Left, divided, granted, note_of, informed, spent_view};
+ghost use Rattle.uw_lock.specs.LockRule.{HoldsHistory, first_view, Taken, Looked, Noted, Left, divided, granted, message_of, informed, spent_view};
 
 use crate::entries::View;
 use crate::kept::Kept;
@@ -109,7 +109,7 @@ impl<K: Kept> Split<View<K::Entry, K::Conf>> for Grant<K> {
     ghost right = { granted };
 }
 
-// What a pass has seen, on a note with no number, for another pass.
+// What a pass has seen, as a message for another pass.
 pub struct Tell<K> {
     of: PhantomData<K>,
 }
@@ -117,7 +117,7 @@ pub struct Tell<K> {
 impl<K: Kept> Split<View<K::Entry, K::Conf>> for Tell<K> {
     ghost left = { λ v. v };
 
-    ghost right = { note_of };
+    ghost right = { message_of };
 }
 
 impl<K: Kept> Join<View<K::Entry, K::Conf>> for Tell<K> {
