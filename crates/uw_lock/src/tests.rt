@@ -1,7 +1,7 @@
 // A register of the tests' own: it stands for the list of the values that were added to it.
-ghost use Rattle.std.specs.Prelude.{◌≡◌, ◌<◌, ◌++◌, ◌∷◌, [], List, map, false, true, IfOk, IfErr, OnOk, OnErr};
+ghost use Rattle.std.specs.Prelude.{◌≡◌, ◌<◌, ◌++◌, ◌∷◌, [], List, map, false, true, IfOk, IfErr, OnOk, OnErr, MatchBool};
 ghost use Rattle.uw_lock.specs.declared.entries.Made.{Made};
-ghost use Rattle.uw_lock.specs.LockRule.{IsOnly};
+ghost use Rattle.uw_lock.specs.LockRule.{StartsWith, HasOwn, IsOnly, made};
 
 use super::*;
 use std::alloc::{AllocError, Global};
@@ -62,25 +62,32 @@ impl Register {
     }
 }
 
-// Adds one value in one turn, and tells whether the last holder died.
+// Adds one value in one turn, and notes it exactly where it was added. Tells whether the last holder died, and whether
+// the value was added.
 fn add_one<R: Wait>(
     rt: &R,
     lock: &RobustLock<Register>,
     pass: Pass<Register>,
     value: u64,
-) -> (Pass<Register>, bool)
+) -> (Pass<Register>, bool, bool)
     requires { pass.lock ≡ lock.now }
-    ensures { result.0.lock ≡ lock.now }
+    ensures pass { (result.0.lock ≡ lock.now) × (result.0.number ≡ pass.number) × (result.0.conf ≡ pass.conf) }
+    ensures own { HasOwn result.0 }
+    ensures seen { StartsWith result.0.seen pass.seen }
+    ensures mine { MatchBool result.2 (result.0.mine ≡ pass.mine ++ made pass.number 0 value ∷ []) (result.0.mine ≡ pass.mine) }
+    ensures last { result.2 ≡ true → (before : List (Made _)) × (result.0.seen ≡ before ++ made pass.number 0 value ∷ []) }
 {
     let mut turn = lock.turn(rt, pass);
     let was_dead = turn.was_dead();
     let register = turn.value();
     register.mend();
-    let added = register.add(value);
-    if added.is_ok() {
-        turn.note(0, &value);
+    match register.add(value) {
+        Ok(()) => {
+            turn.note(0, &value);
+            (turn.leave(), was_dead, true)
+        }
+        Err(_) => (turn.leave(), was_dead, false),
     }
-    (turn.leave(), was_dead)
 }
 
 // A pass that is the only one is told of its own death, and of no other: its contract says so.
@@ -179,8 +186,8 @@ fn a_death_is_told_to_the_next_holder(rt: HostRuntime) -> Result<(), Fail> {
     let (lock, pass) = opened(rt.alloc())?;
     let (died, died_again, pass) = die_and_mend(&rt, &lock, pass);
     assert!(rt; died && !died_again);
-    let (pass, first) = add_one(&rt, &lock, pass, 1);
-    let (pass, after_leave) = add_one(&rt, &lock, pass, 2);
+    let (pass, first, _) = add_one(&rt, &lock, pass, 1);
+    let (pass, after_leave, _) = add_one(&rt, &lock, pass, 2);
     assert!(rt; !first && !after_leave);
     let mut turn = lock.turn(&rt, pass);
     assert!(rt; !turn.was_dead());
@@ -190,8 +197,8 @@ fn a_death_is_told_to_the_next_holder(rt: HostRuntime) -> Result<(), Fail> {
     assert!(rt; turn.was_dead());
     assert!(rt; turn.value().torn);
     let pass = turn.leave_dead();
-    let (pass, after_death) = add_one(&rt, &lock, pass, 3);
-    let (pass, after_mending) = add_one(&rt, &lock, pass, 4);
+    let (pass, after_death, _) = add_one(&rt, &lock, pass, 3);
+    let (pass, after_mending, _) = add_one(&rt, &lock, pass, 4);
     assert!(rt; after_death && !after_mending);
     let register = lock.close(pass).ok_or("the lock was left")?;
     assert_eq!(rt; register.values.as_slice(), [1, 2, 3, 4].as_slice());
