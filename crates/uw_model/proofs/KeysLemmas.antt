@@ -3,12 +3,14 @@ use Rattle.std.proofs.Common.{◌≡◌, ℕ, zero, suc, ◌<◌, Bool, true, fa
 use Rattle.std.specs.List.{list_all}
 use Rattle.std.specs.Str.{bytes_eq}
 use Rattle.std.proofs.lemmas.Slice.Eq.{bytes_eq-Decides}
-use Rattle.std.proofs.lemmas.Bool.{and_parts, not-true, false_from_ne_true, both_ways}
+use Rattle.std.proofs.lemmas.Bool.{cond-false, and_parts, not-true, false_from_ne_true, both_ways}
 use Rattle.std.proofs.lemmas.List.Recursion.{and_at}
 use Rattle.uw_model.specs.declared.conf.CacheConf.{CacheConf}
 use Rattle.uw_model.specs.declared.entries.Entry.{Entry}
 use Rattle.uw_model.specs.Placement.{is_alive}
-use Rattle.uw_model.specs.Calls.{without, alive_at, got}
+use Rattle.uw_model.specs.declared.calls.Call.TheVariants as calls
+use Rattle.uw_model.specs.declared.calls.Answer.TheVariants as answers
+use Rattle.uw_model.specs.Calls.{refused, is_bad_key, without, alive_at, got, deleted, next_state}
 use Rattle.uw_model.specs.Keys.{lacks, HaveOwnKeys, IsPlaceOf, IsAlivePlace}
 
 -- a test that all pass keeps the whole list
@@ -77,3 +79,9 @@ nothing = record { key = []; value = []; dies = 0; first = 0 }
 pub is_some_place : (conf : CacheConf) (list : List Entry) (now : ℕ) (key : List ℕ) (place : Option ℕ) → MatchOption place (alive_at conf list now key ≡ None) (IsAlivePlace conf list now key) → is_some place ≡ is_some (alive_at conf list now key)
 is_some_place conf list now key None h = sym (ap is_some h)
 is_some_place conf list now key (Some place) h = sym (ap is_some (h.found nothing))
+
+-- the list after the removal of the entry at a place
+pub deleted_at : (conf : CacheConf) (list : List Entry) (now : ℕ) (key : List ℕ) (place : ℕ) → is_bad_key conf key ≡ false → HaveOwnKeys list → IsAlivePlace conf list now key place → remove list place ≡ next_state conf list now (calls.Del key)
+deleted_at conf list now key place good own is =
+    sym (ap (λ o. o.list) (cond-false (is_bad_key conf key) (refused answers.KeyLength list) (deleted list (alive_at conf list now key)) good ∙ ap (deleted list) (is.found nothing))
+    ∙ without_itself list place nothing own is.within)

@@ -1,5 +1,5 @@
 -- The laws of the definitions.
-use Rattle.std.proofs.Common.{◌≡◌, ◌≢◌, ℕ, ◌+◌, ◌-◌, ◌<◌, ◌≤◌, max, Bool, true, false, ◌&&◌, ◌⊎◌, ◌↔◌, cond, List, ◌∷◌, get_or, All, Option, Some, None, is_some, unwrap_or, IsTrue, refl, sym, ap, ◌∙◌, arith}
+use Rattle.std.proofs.Common.{◌≡◌, ◌≢◌, ℕ, ◌+◌, ◌-◌, ◌<◌, ◌≤◌, max, Bool, true, false, not, ◌&&◌, ◌⊎◌, ◌↔◌, cond, List, ◌∷◌, get_or, All, Option, Some, None, is_some, unwrap_or, IsTrue, refl, sym, ap, ◌∙◌, arith}
 use Rattle.std.specs.List.{list_all}
 use Rattle.std.specs.Str.{bytes_eq}
 use Rattle.std.proofs.lemmas.Bool.{true_from_ne_false, false≢true, both_ways, and_from, cond-true, cond-false}
@@ -13,7 +13,7 @@ use Rattle.uw_model.specs.declared.calls.Call.TheVariants as calls
 use Rattle.uw_model.specs.declared.calls.Answer.TheVariants as answers
 use Rattle.uw_model.specs.Entries.{span, covers}
 use Rattle.uw_model.specs.Placement.{is_alive, is_clear_of, is_free, first_run, room}
-use Rattle.uw_model.specs.Calls.{Outcome, refused, is_bad_key, is_too_long, alive_at, without, got, placed, answer, next_state, dies_at}
+use Rattle.uw_model.specs.Calls.{Outcome, refused, is_bad_key, is_too_long, alive_at, without, got, placed, deleted, is_no_number, number_at, result_of, is_zero_division, is_in_range, bytes_of_number, dies_of_number, answer, next_state, dies_at}
 use Rattle.uw_model.specs.Laws.{is_refusal, IsLeastRun}
 use Rattle.uw_model.proofs.KeysLemmas.{nothing, list_all_each, same_key}
 use Rattle.uw_model.proofs.PlacementLemmas.{least_place_is, least_place_none, least_place_nowhere, first_run_found}
@@ -71,6 +71,10 @@ placed_keeps : (conf : CacheConf) (list : List Entry) (key value : List ℕ) (di
 placed_keeps conf list key value dies answered None done = λ _. refl
 placed_keeps conf list key value dies answered (Some kept) done = λ h. absurd (both_ways (is_refusal answered) done h)
 
+deleted_keeps : (list : List Entry) (found : Option Entry) → Keeps list (deleted list found)
+deleted_keeps list None = λ _. refl
+deleted_keeps list (Some e) = λ h. absurd (false≢true h)
+
 pub refused_keeps : (conf : CacheConf) (list : List Entry) (now : ℕ) (call : Call) → IsTrue (is_refusal (answer conf list now call)) → next_state conf list now call ≡ list
 refused_keeps conf list now (calls.Get key) =
     unless_keeps list (is_bad_key conf key) answers.KeyLength _ (got_keeps conf list (alive_at conf list now key))
@@ -79,6 +83,28 @@ refused_keeps conf list now (calls.Set key value ttl) =
     unless_keeps list (is_too_long conf value) answers.TooLong _ (
     unless_keeps list (is_some (alive_at conf list now key)) answers.Exists _ (
     placed_keeps conf list key value (dies_at now ttl) answers.Done (room conf (without key list) (span conf value) now) refl)))
+
+refused_keeps conf list now (calls.Update key value ttl) =
+    unless_keeps list (is_bad_key conf key) answers.KeyLength _ (
+    unless_keeps list (is_too_long conf value) answers.TooLong _ (
+    placed_keeps conf list key value (dies_at now ttl) answers.Done (room conf (without key list) (span conf value) now) refl))
+refused_keeps conf list now (calls.Del key) =
+    unless_keeps list (is_bad_key conf key) answers.KeyLength _ (deleted_keeps list (alive_at conf list now key))
+refused_keeps conf list now (calls.Exists key) = unless_keeps list (is_bad_key conf key) answers.KeyLength _ (λ _. refl)
+refused_keeps conf list now calls.Clear = λ h. absurd (false≢true h)
+refused_keeps conf list now (calls.Num key) =
+    unless_keeps list (is_bad_key conf key) answers.KeyLength _ (
+    unless_keeps list (is_no_number (alive_at conf list now key)) answers.NotNumber _ (λ _. refl))
+refused_keeps conf list now (calls.Math op key by ttl) =
+    let alive = alive_at conf list now key in
+    let number = result_of op (number_at alive) by in
+    unless_keeps list (is_bad_key conf key) answers.KeyLength _ (
+    unless_keeps list (is_no_number alive) answers.NotNumber _ (
+    unless_keeps list (is_zero_division op by) answers.ZeroDivisor _ (
+    unless_keeps list (not (is_in_range number)) answers.Range _ (
+    placed_keeps conf list key (bytes_of_number number) (dies_of_number now ttl alive) (answers.Number number) (room conf (without key list) (span conf (bytes_of_number number)) now) refl))))
+refused_keeps conf list now calls.Keys = λ _. refl
+refused_keeps conf list now calls.Sweep = λ h. absurd (false≢true h)
 
 -- after an outcome that is done, the key has the value at that moment
 abbrev Reads : CacheConf → ℕ → List ℕ → List ℕ → Outcome → Type 0

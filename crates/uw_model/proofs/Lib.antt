@@ -6,3 +6,4 @@ pub mod PartLemmas
 pub mod RoomLemmas
 pub mod NextStateLemmas
 pub mod LawLemmas
+pub mod MathLemmas

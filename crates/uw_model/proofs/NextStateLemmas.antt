@@ -1,11 +1,12 @@
 -- The next list of a well-formed one is well-formed.
-use Rattle.std.proofs.Common.{◌≡◌, ℕ, suc, ◌+◌, ◌-◌, ◌≤◌, nat_lt, Bool, true, false, not, ◌&&◌, cond, List, [], ◌∷◌, length, filter, find, Option, Some, None, is_some, unwrap_or, Result, Ok, Err, OnOk, OnErr, refl, sym, ap, subst, inl, inr, arith}
+use Rattle.std.proofs.Common.{◌≡◌, ℕ, suc, ◌+◌, ◌-◌, ◌≤◌, nat_lt, Bool, true, false, not, ◌&&◌, cond, List, [], ◌∷◌, length, filter, find, Option, Some, None, is_some, unwrap_or, Result, Ok, Err, OnOk, OnErr, refl, sym, ap, subst, inl, inr, ℤ, arith}
 use Rattle.std.specs.List.{list_all}
 use Rattle.std.specs.Str.{bytes_eq}
 use Rattle.std.proofs.lemmas.Slice.Eq.{bytes_eq-Decides}
 use Rattle.std.proofs.lemmas.Bool.{cases_Bool, and_parts, not-true, both_ways, false_from_ne_true, cond_both, ltb-true, ltb-false}
 use Rattle.std.proofs.lemmas.Bool.Decides.{nat_tests}
 use Rattle.std.proofs.lemmas.Option.{none-some, same_Some}
+use Rattle.std.proofs.lemmas.Nat.{mul-le}
 use Rattle.uw_model.specs.declared.conf.CacheConf.{CacheConf}
 use Rattle.uw_model.specs.declared.entries.Entry.{Entry}
 use Rattle.uw_model.specs.declared.calls.Call.{Call}
@@ -14,10 +15,10 @@ use Rattle.uw_model.specs.declared.calls.Call.TheVariants as calls
 use Rattle.uw_model.specs.declared.calls.Answer.TheVariants as answers
 use Rattle.uw_model.specs.Entries.{IsCacheConf, IsEntry, IsApart, IsApartFrom, AreApart, IsState, max_value, span}
 use Rattle.uw_model.specs.Placement.{is_alive, is_clear_of, is_free, first_run, room}
-use Rattle.uw_model.specs.Calls.{Outcome, refused, is_bad_key, is_too_long, alive_at, without, got, placed, written, next_state, dies_at}
+use Rattle.uw_model.specs.Calls.{Outcome, refused, is_bad_key, is_too_long, alive_at, without, got, placed, written, deleted, is_no_number, number_at, result_of, is_zero_division, is_in_range, bytes_of_number, dies_of_number, next_state, dies_at}
 use Rattle.uw_model.specs.Keys.{lacks}
 use Rattle.uw_model.proofs.KeysLemmas.{filter_whole, same_key}
-use Rattle.uw_model.proofs.PartLemmas.{part_filter, part_all, part_apart}
+use Rattle.uw_model.proofs.PartLemmas.{part_state, part_filter, part_all, part_apart}
 use Rattle.uw_model.proofs.PlacementLemmas.{least_place_is}
 use Rattle.uw_model.proofs.RoomLemmas.{IsRoom, room_is, span_within, empty_fits, cases_choice}
 use Rattle.uw_model.proofs.StateLemmas.{lacks_apart}
@@ -143,6 +144,18 @@ fit_of conf key value good short = record { of_key = (grind (arith, nat_tests), 
 taken_alive : (conf : CacheConf) (list : List Entry) (now : ℕ) (key : List ℕ) → IsState conf list → (e : Entry) → alive_at conf list now key ≡ Some e → IsTaken conf list e
 taken_alive conf list now key state e found = taken_found conf (λ o. bytes_eq o.key key && is_alive conf now o) list e found state.apart
 
+-- the eight bytes of a number fit everywhere
+number_fit : (conf : CacheConf) (key : List ℕ) (number : ℤ) → IsCacheConf conf → is_bad_key conf key ≡ false → IsFit conf key (bytes_of_number number)
+number_fit conf key number is good =
+    let m = mul-le 1 8 conf.blocks conf.blocksize is.blocks.0 is.blocksize.0 in
+    record { of_key = (grind (arith, nat_tests), grind (arith, nat_tests));
+      of_value = elim (cases_Bool conf.bitmap) [ inl set ↦ rw set (omega (arith, m)) | inr unset ↦ rw unset (omega (arith, is.blocksize.0)) ] }
+
+-- the list after a removal
+deleted_state : (conf : CacheConf) (list : List Entry) (found : Option Entry) → IsState conf list → IsState conf (deleted list found).list
+deleted_state conf list None state = state
+deleted_state conf list (Some e) state = part_state conf (part_filter (λ o. not (bytes_eq o.key e.key)) list) state
+
 -- a call goes on where a refusal does not apply, and leaves the list where it does
 unless_refused : (conf : CacheConf) (list : List Entry) (refuses : Bool) (answer : Answer) (rest : Outcome) → IsState conf list → (refuses ≡ false → IsState conf rest.list) → IsState conf (cond refuses (refused answer list) rest).list
 unless_refused conf list true answer rest state go = state
@@ -156,6 +169,29 @@ next_is_state conf list now (calls.Set key value ttl) is state =
     unless_refused conf list (is_too_long conf value) answers.TooLong _ state (λ short.
     unless_refused conf list (is_some (alive_at conf list now key)) answers.Exists _ state (λ _.
     written_state conf list now key value (dies_at now ttl) answers.Done is (fit_of conf key value good short) state)))
+
+next_is_state conf list now (calls.Update key value ttl) is state =
+    unless_refused conf list (is_bad_key conf key) answers.KeyLength _ state (λ good.
+    unless_refused conf list (is_too_long conf value) answers.TooLong _ state (λ short.
+    written_state conf list now key value (dies_at now ttl) answers.Done is (fit_of conf key value good short) state))
+next_is_state conf list now (calls.Del key) is state =
+    unless_refused conf list (is_bad_key conf key) answers.KeyLength _ state (λ _. deleted_state conf list (alive_at conf list now key) state)
+next_is_state conf list now (calls.Exists key) is state =
+    unless_refused conf list (is_bad_key conf key) answers.KeyLength _ state (λ _. state)
+next_is_state conf list now calls.Clear is state = record { few = omega arith; apart = tt }
+next_is_state conf list now (calls.Num key) is state =
+    unless_refused conf list (is_bad_key conf key) answers.KeyLength _ state (λ _.
+    unless_refused conf list (is_no_number (alive_at conf list now key)) answers.NotNumber _ state (λ _. state))
+next_is_state conf list now (calls.Math op key by ttl) is state =
+    let alive = alive_at conf list now key in
+    let number = result_of op (number_at alive) by in
+    unless_refused conf list (is_bad_key conf key) answers.KeyLength _ state (λ good.
+    unless_refused conf list (is_no_number alive) answers.NotNumber _ state (λ _.
+    unless_refused conf list (is_zero_division op by) answers.ZeroDivisor _ state (λ _.
+    unless_refused conf list (not (is_in_range number)) answers.Range _ state (λ _.
+    written_state conf list now key (bytes_of_number number) (dies_of_number now ttl alive) (answers.Number number) is (number_fit conf key number is good) state))))
+next_is_state conf list now calls.Keys is state = state
+next_is_state conf list now calls.Sweep is state = part_state conf (part_filter (is_alive conf now) list) state
 
 -- what a call leaves is a state, whether it answered or had no memory
 pub left_state : {T E : Type 0} (result : Result T E) (conf : CacheConf) (old new : List Entry) (now : ℕ) (call : Call) → IsCacheConf conf × IsState conf old → OnOk result (new ≡ next_state conf old now call) → OnErr result (new ≡ old) → IsCacheConf conf × IsState conf new

@@ -1,15 +1,18 @@
 -- What each call of a cache answers, and the list that it leaves ("The Caching framework"). Refusals come in the order of the
 -- rows, and leave the list as it is.
-use Rattle.std.specs.Prelude.{ℕ, ◌+◌, ◌-◌, ◌^◌, ◌==◌, min, nat_lt, Bool, not, ◌&&◌, ◌||◌, if◌then◌else◌, List, ◌∷◌, length, filter, find, Option, None, Some, is_some, unwrap_or}
+use Rattle.std.specs.Prelude.{ℕ, ◌+◌, ◌-◌, ◌^◌, ◌==◌, min, nat_lt, Bool, false, not, ◌&&◌, ◌||◌, if◌then◌else◌, List, [], ◌∷◌, length, filter, find, map, Option, None, Some, is_some, unwrap_or, ℤ, pos, negsuc, ◌+ℤ◌, ◌-ℤ◌, ◌*ℤ◌, int_div}
 use Rattle.std.specs.Str.{bytes_eq}
+use Rattle.std.specs.Int.{cast_signed, cast_unsigned, from_le_bytes, to_le_bytes, w64}
 use Rattle.uw_model.specs.declared.conf.CacheConf.{CacheConf}
 use Rattle.uw_model.specs.declared.entries.Entry.{Entry}
 use Rattle.uw_model.specs.declared.calls.Call.{Call}
 use Rattle.uw_model.specs.declared.calls.Answer.{Answer}
+use Rattle.uw_model.specs.declared.calls.MathOp.{MathOp}
 use Rattle.uw_model.specs.declared.calls.Call.TheVariants as calls
 use Rattle.uw_model.specs.declared.calls.Answer.TheVariants as answers
+use Rattle.uw_model.specs.declared.calls.MathOp.TheVariants as ops
 use Rattle.uw_model.specs.Entries.{max_value, span}
-use Rattle.uw_model.specs.Placement.{is_alive, first_run, room}
+use Rattle.uw_model.specs.Placement.{is_alive, alive_of, first_run, room}
 
 -- what a call answers, and the list after it
 pub record Outcome : Type 0 where
@@ -58,6 +61,63 @@ abbrev pub written : CacheConf → List Entry → ℕ → List ℕ → List ℕ 
 written conf list now key value dies answered =
     placed conf list key value dies answered (room conf (without key list) (span conf value) now)
 
+-- the value of an alive entry is not one of eight bytes
+abbrev pub is_no_number : Option Entry → Bool
+is_no_number None = false
+is_no_number (Some e) = not (length e.value == 8)
+
+-- the number that a value of eight bytes stands for: little endian, in two's complement
+abbrev pub number_of : List ℕ → ℤ
+number_of value = cast_signed w64 (from_le_bytes w64 value)
+
+-- the eight bytes that stand for a number
+abbrev pub bytes_of_number : ℤ → List ℕ
+bytes_of_number number = to_le_bytes w64 (cast_unsigned w64 number)
+
+-- the number of an alive entry, 0 where there is none
+abbrev pub number_at : Option Entry → ℤ
+number_at None = pos 0
+number_at (Some e) = number_of e.value
+
+-- the result of a number call; a division goes toward zero
+abbrev pub result_of : MathOp → ℤ → ℤ → ℤ
+result_of ops.Inc number by = number +ℤ by
+result_of ops.Dec number by = number -ℤ by
+result_of ops.Mul number by = number *ℤ by
+result_of ops.Div number by = int_div number by
+
+-- a division by 0
+abbrev pub is_zero_division : MathOp → ℤ → Bool
+is_zero_division ops.Inc by = false
+is_zero_division ops.Dec by = false
+is_zero_division ops.Mul by = false
+is_zero_division ops.Div by = is_zero by
+  where
+    is_zero : ℤ → Bool
+    is_zero (pos n) = n == 0
+    is_zero (negsuc n) = false
+
+-- the number is one of 64 bits with a sign
+abbrev pub is_in_range : ℤ → Bool
+is_in_range (pos n) = nat_lt n (2 ^ 63)
+is_in_range (negsuc n) = nat_lt n (2 ^ 63)
+
+-- when the number that is written now dies: the moment of the alive entry stays where the time to live is 0
+abbrev pub dies_of_number : ℕ → ℕ → Option Entry → ℕ
+dies_of_number now ttl None = dies_at now ttl
+dies_of_number now ttl (Some e) = if ttl == 0 then e.dies else dies_at now ttl
+
+-- a number call that is not refused before its result is known
+abbrev pub reckoned : CacheConf → List Entry → ℕ → List ℕ → ℕ → Option Entry → ℤ → Outcome
+reckoned conf list now key ttl alive number =
+    if not (is_in_range number) then refused answers.Range list
+    else written conf list now key (bytes_of_number number) (dies_of_number now ttl alive) (answers.Number number)
+
+-- the alive entry goes
+abbrev pub deleted : List Entry → Option Entry → Outcome
+deleted list None = record { answer = answers.Missing; list = list }
+deleted list (Some e) = record { answer = answers.Done; list = without e.key list }
+
 -- one row a call
 abbrev pub outcome : CacheConf → List Entry → ℕ → Call → Outcome
 outcome conf list now (calls.Get key) =
@@ -68,6 +128,31 @@ outcome conf list now (calls.Set key value ttl) =
     else (if is_too_long conf value then refused answers.TooLong list
     else (if is_some (alive_at conf list now key) then refused answers.Exists list
     else written conf list now key value (dies_at now ttl) answers.Done))
+outcome conf list now (calls.Update key value ttl) =
+    if is_bad_key conf key then refused answers.KeyLength list
+    else (if is_too_long conf value then refused answers.TooLong list
+    else written conf list now key value (dies_at now ttl) answers.Done)
+outcome conf list now (calls.Del key) =
+    if is_bad_key conf key then refused answers.KeyLength list
+    else deleted list (alive_at conf list now key)
+outcome conf list now (calls.Exists key) =
+    if is_bad_key conf key then refused answers.KeyLength list
+    else record { answer = answers.Flag (is_some (alive_at conf list now key)); list = list }
+outcome conf list now calls.Clear = record { answer = answers.Done; list = [] }
+outcome conf list now (calls.Num key) =
+    if is_bad_key conf key then refused answers.KeyLength list
+    else (if is_no_number (alive_at conf list now key) then refused answers.NotNumber list
+    else record { answer = answers.Number (number_at (alive_at conf list now key)); list = list })
+outcome conf list now (calls.Math op key by ttl) =
+    if is_bad_key conf key then refused answers.KeyLength list
+    else (if is_no_number (alive_at conf list now key) then refused answers.NotNumber list
+    else (if is_zero_division op by then refused answers.ZeroDivisor list
+    else reckoned conf list now key ttl (alive_at conf list now key) (result_of op (number_at (alive_at conf list now key)) by)))
+outcome conf list now calls.Keys = record { answer = answers.Keys (map (λ e. e.key) (alive_of conf now list)); list = list }
+outcome conf list now calls.Sweep = record {
+  answer = answers.Number (pos (length (filter (λ e. not (is_alive conf now e)) list)));
+  list = alive_of conf now list;
+}
 
 -- the defined answer of a call
 abbrev pub answer : CacheConf → List Entry → ℕ → Call → Answer

@@ -8,12 +8,13 @@ pub mod entries;
 mod keys;
 pub mod laws;
 mod list_cache;
+mod numbers;
 mod placement;
 mod sizes;
 mod steps;
 
 pub use asks::Ask;
-pub use calls::{Answer, Call};
+pub use calls::{Answer, Call, MathOp};
 pub use conf::CacheConf;
 pub use entries::Entry;
 pub use list_cache::ListCache;

@@ -47,20 +47,7 @@ impl ListCache {
         ensures memory { OnErr result (self.new.list ≡ self.old.list) }
         ensures conf { self.new.conf ≡ self.old.conf }
     {
-        match call {
-            Call::Get { key } => {
-                steps::get(alloc, &self.conf, &mut self.entries, moment, key.as_slice())
-            }
-            Call::Set { key, value, ttl } => steps::set(
-                alloc,
-                &self.conf,
-                &mut self.entries,
-                moment,
-                key.as_slice(),
-                value.as_slice(),
-                *ttl,
-            ),
-        }
+        steps::made(alloc, &self.conf, &mut self.entries, moment, call)
     }
 }
 

@@ -1,5 +1,5 @@
 // Each call of a cache as a step on the list of its entries.
-ghost use Rattle.std.specs.Prelude.{◌≡◌, ◌<◌, Some, None, is_some, slice_index_or, vec_len, vec_capacity, MatchOption, IfOk, OnOk, OnErr};
+ghost use Rattle.std.specs.Prelude.{◌≡◌, ◌<◌, Some, None, is_some, option_copied, slice_index_or, vec_len, vec_capacity, MatchOption, IfOk, OnOk, OnErr};
 ghost use Rattle.uw_model.specs.declared.entries.Entry.{Entry as EntryValue};
 ghost use Rattle.uw_model.specs.declared.calls.Call.TheVariants as calls;
 ghost use Rattle.uw_model.specs.Entries.{IsCacheConf, IsState};
@@ -7,11 +7,12 @@ ghost use Rattle.uw_model.specs.Calls.{answer, next_state, written, alive_at, go
 ghost use Rattle.uw_model.specs.Keys.{HaveOwnKeys, IsAlivePlace};
 
 use crate::keys::{move_to_front, place_of, put_back, put_in_front, take_out};
-use crate::placement::{first_run, is_alive, make_room};
+use crate::numbers::{Reckoning, dies_of_number, is_zero_division, number_at, result_of};
+use crate::placement::{first_run, is_alive, keep_alive, make_room};
 use crate::sizes::{dies_at, is_bad_key, is_too_long, span};
-use crate::{Answer, CacheConf, Entry};
+use crate::{Answer, CacheConf, Call, Entry};
 use std::alloc::Global;
-use uw_base::{Bytes, Memory};
+use uw_base::{Bytes, BytesList, Memory};
 
 /// The place of the alive entry of a key.
 fn place_of_alive(conf: &CacheConf, entries: &[Entry], moment: u64, key: &[u8]) -> Option<usize>
@@ -38,6 +39,15 @@ fn touch(conf: &CacheConf, entries: &mut Vec<Entry>, place: usize)
         return;
     }
     move_to_front(entries, place);
+}
+
+/// The alive entry of a key.
+fn alive<'a>(conf: &CacheConf, entries: &'a [Entry], moment: u64, key: &[u8]) -> Option<&'a Entry>
+    requires { IsState conf.now entries.now }
+    ensures { option_copied result ≡ alive_at conf.now entries.now moment key.now }
+{
+    let place = place_of_alive(conf, entries, moment, key)?;
+    Some(&entries[place])
 }
 
 /// The value of a key.
@@ -161,4 +171,197 @@ pub fn set(
     }
     let entry = copied(alloc, key, value, dies_at(moment, ttl))?;
     write(conf, entries, moment, entry, Answer::Done)
+}
+
+/// Writes the value of a key, whether it has an alive entry or not.
+pub fn update(
+    alloc: Global,
+    conf: &CacheConf,
+    entries: &mut Vec<Entry>,
+    moment: u64,
+    key: &[u8],
+    value: &[u8],
+    ttl: u64,
+) -> Result<Answer, Memory>
+    requires conf { IsCacheConf conf.now }
+    requires state { IsState conf.now entries.old.items }
+    ensures answer { IfOk result
+        (λ a. a ≡ answer conf.now entries.old.items moment (calls.Update key.now value.now ttl)) }
+    ensures next { OnOk result
+        (entries.new.items ≡ next_state conf.now entries.old.items moment (calls.Update key.now value.now ttl)) }
+    ensures memory { OnErr result (entries.new.items ≡ entries.old.items) }
+{
+    if is_bad_key(conf, key) {
+        return Ok(Answer::KeyLength);
+    }
+    if is_too_long(conf, value) {
+        return Ok(Answer::TooLong);
+    }
+    let entry = copied(alloc, key, value, dies_at(moment, ttl))?;
+    write(conf, entries, moment, entry, Answer::Done)
+}
+
+/// Removes the alive entry of a key.
+pub fn delete(conf: &CacheConf, entries: &mut Vec<Entry>, moment: u64, key: &[u8]) -> Answer
+    requires { IsState conf.now entries.old.items }
+    ensures answer { result ≡ answer conf.now entries.old.items moment (calls.Del key.now) }
+    ensures next { entries.new.items ≡ next_state conf.now entries.old.items moment (calls.Del key.now) }
+{
+    if is_bad_key(conf, key) {
+        return Answer::KeyLength;
+    }
+    let Some(place) = place_of_alive(conf, entries, moment, key) else {
+        return Answer::Missing;
+    };
+    entries.remove(place);
+    Answer::Done
+}
+
+/// Whether a key has an alive entry. Never a use.
+pub fn exists(conf: &CacheConf, entries: &[Entry], moment: u64, key: &[u8]) -> Answer
+    requires { IsState conf.now entries.now }
+    ensures { result ≡ answer conf.now entries.now moment (calls.Exists key.now) }
+{
+    if is_bad_key(conf, key) {
+        return Answer::KeyLength;
+    }
+    Answer::Flag(has_alive(conf, entries, moment, key))
+}
+
+/// The number of a key, 0 where it has no alive entry. Never a use.
+pub fn num(conf: &CacheConf, entries: &[Entry], moment: u64, key: &[u8]) -> Answer
+    requires { IsState conf.now entries.now }
+    ensures { result ≡ answer conf.now entries.now moment (calls.Num key.now) }
+{
+    if is_bad_key(conf, key) {
+        return Answer::KeyLength;
+    }
+    match number_at(alive(conf, entries, moment, key)) {
+        None => Answer::NotNumber,
+        Some(number) => Answer::Number(number),
+    }
+}
+
+/// Changes the number of a key.
+pub fn math(
+    alloc: Global,
+    conf: &CacheConf,
+    entries: &mut Vec<Entry>,
+    moment: u64,
+    key: &[u8],
+    reckoning: Reckoning,
+) -> Result<Answer, Memory>
+    requires conf { IsCacheConf conf.now }
+    requires state { IsState conf.now entries.old.items }
+    ensures answer { IfOk result (λ a. a ≡ answer conf.now entries.old.items moment
+        (calls.Math reckoning.op key.now reckoning.by reckoning.ttl)) }
+    ensures next { OnOk result (entries.new.items ≡ next_state conf.now entries.old.items moment
+        (calls.Math reckoning.op key.now reckoning.by reckoning.ttl)) }
+    ensures memory { OnErr result (entries.new.items ≡ entries.old.items) }
+{
+    if is_bad_key(conf, key) {
+        return Ok(Answer::KeyLength);
+    }
+    let Reckoning { op, by, ttl } = reckoning;
+    let alive = alive(conf, entries, moment, key);
+    let Some(number) = number_at(alive) else {
+        return Ok(Answer::NotNumber);
+    };
+    if is_zero_division(op, by) {
+        return Ok(Answer::ZeroDivisor);
+    }
+    let dies = dies_of_number(moment, ttl, alive);
+    let Some(number) = result_of(op, number, by) else {
+        return Ok(Answer::Range);
+    };
+    let entry = copied(alloc, key, &number.to_le_bytes(), dies)?;
+    write(conf, entries, moment, entry, Answer::Number(number))
+}
+
+/// The keys of the alive entries, the most recent first.
+pub fn keys(
+    alloc: Global,
+    conf: &CacheConf,
+    entries: &[Entry],
+    moment: u64,
+) -> Result<Answer, Memory>
+    ensures { IfOk result (λ a. a ≡ answer conf.now entries.now moment calls.Keys) }
+{
+    let mut keys = BytesList::new(alloc);
+    for entry in entries {
+        if is_alive(conf, moment, entry) {
+            keys.push(Bytes::from_slice(alloc, entry.key.as_slice())?)?;
+        }
+    }
+    Ok(Answer::Keys(keys))
+}
+
+/// Removes the entries that are not alive, and counts them.
+pub fn sweep(conf: &CacheConf, entries: &mut Vec<Entry>, moment: u64) -> Answer
+    requires conf { IsCacheConf conf.now }
+    requires state { IsState conf.now entries.old.items }
+    ensures answer { result ≡ answer conf.now entries.old.items moment calls.Sweep }
+    ensures next { entries.new.items ≡ next_state conf.now entries.old.items moment calls.Sweep }
+{
+    let before = entries.len();
+    keep_alive(conf, entries, moment);
+    Answer::Number((before - entries.len()) as i64)
+}
+
+/// Makes a call.
+pub fn made(
+    alloc: Global,
+    conf: &CacheConf,
+    entries: &mut Vec<Entry>,
+    moment: u64,
+    call: &Call,
+) -> Result<Answer, Memory>
+    requires conf { IsCacheConf conf.now }
+    requires state { IsState conf.now entries.old.items }
+    ensures answer { IfOk result (λ a. a ≡ answer conf.now entries.old.items moment call.now) }
+    ensures next { OnOk result (entries.new.items ≡ next_state conf.now entries.old.items moment call.now) }
+    ensures memory { OnErr result (entries.new.items ≡ entries.old.items) }
+{
+    match call {
+        Call::Get { key } => get(alloc, conf, entries, moment, key.as_slice()),
+        Call::Set { key, value, ttl } => {
+            set(
+                alloc,
+                conf,
+                entries,
+                moment,
+                key.as_slice(),
+                value.as_slice(),
+                *ttl,
+            )
+        }
+        Call::Update { key, value, ttl } => {
+            update(
+                alloc,
+                conf,
+                entries,
+                moment,
+                key.as_slice(),
+                value.as_slice(),
+                *ttl,
+            )
+        }
+        Call::Del { key } => Ok(delete(conf, entries, moment, key.as_slice())),
+        Call::Exists { key } => Ok(exists(conf, entries, moment, key.as_slice())),
+        Call::Clear => {
+            entries.clear();
+            Ok(Answer::Done)
+        }
+        Call::Num { key } => Ok(num(conf, entries, moment, key.as_slice())),
+        Call::Math { op, key, by, ttl } => {
+            let reckoning = Reckoning {
+                op: *op,
+                by: *by,
+                ttl: *ttl,
+            };
+            math(alloc, conf, entries, moment, key.as_slice(), reckoning)
+        }
+        Call::Keys => keys(alloc, conf, entries, moment),
+        Call::Sweep => Ok(sweep(conf, entries, moment)),
+    }
 }
