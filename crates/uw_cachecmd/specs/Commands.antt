@@ -1,5 +1,5 @@
 -- What a packet of modifier1 111 asks of a cache, or why it asks nothing (own rule).
-use Rattle.std.specs.Prelude.{ℕ, ◌==◌, ◌+◌, ◌<◌, nat_lt, Bool, if◌then◌else◌, List, [], ◌∷◌, length, take, slice_index_or, Option, None, Some, Result, Ok, Err, codes, ◌≡◌, ◌⊎◌, ℤ, pos}
+use Rattle.std.specs.Prelude.{ℕ, ◌==◌, nat_lt, if◌then◌else◌, List, [], length, take, slice_index_or, Option, None, Some, Result, Ok, Err, codes, ◌≡◌, ◌⊎◌, ℤ, pos}
 use Rattle.std.specs.List.{position_from}
 use Rattle.std.specs.Str.{bytes_eq}
 use Rattle.uw_base.specs.Numbers.{decimal_of, signed_of}

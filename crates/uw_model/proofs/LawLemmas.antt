@@ -83,7 +83,6 @@ refused_keeps conf list now (calls.Set key value ttl) =
     unless_keeps list (is_too_long conf value) answers.TooLong _ (
     unless_keeps list (is_some (alive_at conf list now key)) answers.Exists _ (
     placed_keeps conf list key value (dies_at now ttl) answers.Done (room conf (without key list) (span conf value) now) refl)))
-
 refused_keeps conf list now (calls.Update key value ttl) =
     unless_keeps list (is_bad_key conf key) answers.KeyLength _ (
     unless_keeps list (is_too_long conf value) answers.TooLong _ (

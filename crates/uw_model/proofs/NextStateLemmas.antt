@@ -148,8 +148,10 @@ taken_alive conf list now key state e found = taken_found conf (λ o. bytes_eq o
 number_fit : (conf : CacheConf) (key : List ℕ) (number : ℤ) → IsCacheConf conf → is_bad_key conf key ≡ false → IsFit conf key (bytes_of_number number)
 number_fit conf key number is good =
     let m = mul-le 1 8 conf.blocks conf.blocksize is.blocks.0 is.blocksize.0 in
-    record { of_key = (grind (arith, nat_tests), grind (arith, nat_tests));
-      of_value = elim (cases_Bool conf.bitmap) [ inl set ↦ rw set (omega (arith, m)) | inr unset ↦ rw unset (omega (arith, is.blocksize.0)) ] }
+    record {
+      of_key = (grind (arith, nat_tests), grind (arith, nat_tests));
+      of_value = elim (cases_Bool conf.bitmap) [ inl set ↦ rw set (omega (arith, m)) | inr unset ↦ rw unset (omega (arith, is.blocksize.0)) ];
+    }
 
 -- the list after a removal
 deleted_state : (conf : CacheConf) (list : List Entry) (found : Option Entry) → IsState conf list → IsState conf (deleted list found).list
@@ -169,7 +171,6 @@ next_is_state conf list now (calls.Set key value ttl) is state =
     unless_refused conf list (is_too_long conf value) answers.TooLong _ state (λ short.
     unless_refused conf list (is_some (alive_at conf list now key)) answers.Exists _ state (λ _.
     written_state conf list now key value (dies_at now ttl) answers.Done is (fit_of conf key value good short) state)))
-
 next_is_state conf list now (calls.Update key value ttl) is state =
     unless_refused conf list (is_bad_key conf key) answers.KeyLength _ state (λ good.
     unless_refused conf list (is_too_long conf value) answers.TooLong _ state (λ short.

@@ -1,4 +1,4 @@
-use Rattle.std.proofs.Common.{◌≡◌, arith, ap, sym, codes}
+use Rattle.std.proofs.Common.{arith, ap, sym, codes}
 use Rattle.std.proofs.lemmas.Slice.Eq.{text_from_reads}
 use Rattle.uw_cachecmd.specs.Commands.{kind_of}
 use Rattle.uw_cachecmd.proofs.commands.kind_named.Goals as goal
