@@ -113,7 +113,7 @@ unless_reads : (conf : CacheConf) (later : ℕ) (key value : List ℕ) (list : L
 unless_reads conf later key value list true answer rest other go = λ e. absurd (other e)
 unless_reads conf later key value list false answer rest other go = go refl
 
-front_alive : (conf : CacheConf) (new : Entry) (kept : List Entry) (later : ℕ) → is_alive conf later new ≡ true → alive_at conf (new ∷ kept) later new.key ≡ Some new
+pub front_alive : (conf : CacheConf) (new : Entry) (kept : List Entry) (later : ℕ) → is_alive conf later new ≡ true → alive_at conf (new ∷ kept) later new.key ≡ Some new
 front_alive conf new kept later alive =
     cond-true (bytes_eq new.key new.key && is_alive conf later new) (Some new) (alive_at conf kept later new.key) (and_from (bytes_eq new.key new.key) (is_alive conf later new) (same_key new.key) alive)
 
@@ -122,7 +122,7 @@ front_read conf new kept later good alive =
     ap (λ o. o.answer) (cond-false (is_bad_key conf new.key) (refused answers.KeyLength (new ∷ kept)) (got conf (new ∷ kept) (alive_at conf (new ∷ kept) later new.key)) good
     ∙ ap (got conf (new ∷ kept)) (front_alive conf new kept later alive))
 
-alive_before : (conf : CacheConf) (e : Entry) (later : ℕ) → (e.dies ≡ 0) ⊎ (later < e.dies) → is_alive conf later e ≡ true
+pub alive_before : (conf : CacheConf) (e : Entry) (later : ℕ) → (e.dies ≡ 0) ⊎ (later < e.dies) → is_alive conf later e ≡ true
 alive_before conf e later before = grind (arith, nat_tests)
 
 placed_reads : (conf : CacheConf) (later : ℕ) (list : List Entry) (key value : List ℕ) (dies : ℕ) (kept : Option (List Entry)) → is_bad_key conf key ≡ false → (dies ≡ 0) ⊎ (later < dies) → Reads conf later key value (placed conf list key value dies answers.Done kept)

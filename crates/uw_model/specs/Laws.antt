@@ -1,10 +1,13 @@
 -- What the laws of the definitions speak of.
-use Rattle.std.specs.Prelude.{◌≡◌, ℕ, ◌+◌, ◌<◌, ◌≤◌, Bool, true, false, List, IsTrue}
+use Rattle.std.specs.Prelude.{◌≡◌, ℕ, ℤ, ◌+◌, ◌<◌, ◌≤◌, Bool, true, false, List, [], ◌∷◌, take, length, IsTrue}
 use Rattle.uw_model.specs.declared.conf.CacheConf.{CacheConf}
 use Rattle.uw_model.specs.declared.entries.Entry.{Entry}
 use Rattle.uw_model.specs.declared.calls.Answer.{Answer}
 use Rattle.uw_model.specs.declared.calls.Answer.TheVariants as answers
-use Rattle.uw_model.specs.Placement.{is_free}
+use Rattle.uw_model.specs.declared.calls.MathOp.TheVariants as ops
+use Rattle.uw_model.specs.declared.calls.Call.TheVariants as calls
+use Rattle.uw_model.specs.Placement.{is_free, fits}
+use Rattle.uw_model.specs.Calls.{answer, next_state}
 
 -- the answer refuses the call
 abbrev pub is_refusal : Answer → Bool
@@ -22,3 +25,23 @@ pub record IsLeastRun (conf : CacheConf) (list : List Entry) (n place : ℕ) : T
   pub within : place + n ≤ conf.blocks
   pub free : IsTrue (is_free conf list n place)
   pub least : (before : ℕ) → before < place → is_free conf list n before ≡ false
+
+-- the front of the list of `count` entries, which leaves room for one more of n blocks; no longer one does
+pub record IsLongestFront (conf : CacheConf) (list : List Entry) (n : ℕ) (front : List Entry) : Type 0 where
+  pub count : ℕ
+  pub within : count ≤ length list
+  pub same : front ≡ take count list
+  pub room : IsTrue (fits conf front n)
+  pub longest : (more : ℕ) → count < more → more ≤ length list → fits conf (take more list) n ≡ false
+
+-- the list after amounts were added to the number of a key, one after the other at one moment
+abbrev pub added : CacheConf → List Entry → ℕ → List ℕ → ℕ → List ℤ → List Entry
+added conf list now key ttl [] = list
+added conf list now key ttl (by ∷ amounts) = added conf (next_state conf list now (calls.Math ops.Inc key by ttl)) now key ttl amounts
+
+-- none of these calls is refused
+abbrev pub AreAdded : CacheConf → List Entry → ℕ → List ℕ → ℕ → List ℤ → Type 0
+AreAdded conf list now key ttl [] = Unit {0}
+AreAdded conf list now key ttl (by ∷ amounts) =
+    (is_refusal (answer conf list now (calls.Math ops.Inc key by ttl)) ≡ false)
+    × AreAdded conf (next_state conf list now (calls.Math ops.Inc key by ttl)) now key ttl amounts
