@@ -56,6 +56,53 @@ fn ran(
     })
 }
 
+// A command: its variables, of which the empty ones are left out.
+#[derive(Clone, Copy)]
+struct Command<'a> {
+    cmd: &'a [u8],
+    key: &'a [u8],
+    value: &'a [u8],
+    expires: &'a [u8],
+    amount: &'a [u8],
+}
+
+// A command of a key with a value.
+fn of<'a>(cmd: &'a [u8], key: &'a [u8], value: &'a [u8]) -> Command<'a> {
+    Command {
+        cmd,
+        key,
+        value,
+        expires: b"",
+        amount: b"",
+    }
+}
+
+// Puts a text behind its length.
+fn push_text(block: &mut Vec<u8>, text: &[u8]) -> Result<(), AllocError> {
+    let len = (text.len() % 65536) as u16;
+    block.extend_from_slice(&[(len % 256) as u8, (len / 256) as u8])?;
+    block.extend_from_slice(text)
+}
+
+// A packet with a command block.
+fn commanded(alloc: Global, command: &Command) -> Result<Vec<u8>, AllocError> {
+    let pairs: [(&[u8], &[u8]); 5] = [
+        (b"cmd", command.cmd),
+        (b"key", command.key),
+        (b"value", command.value),
+        (b"expires", command.expires),
+        (b"amount", command.amount),
+    ];
+    let mut block = Vec::new(alloc);
+    for (name, value) in pairs {
+        if !value.is_empty() {
+            push_text(&mut block, name)?;
+            push_text(&mut block, value)?;
+        }
+    }
+    packet(alloc, 200, block.as_slice())
+}
+
 const SET_AND_GET: &[u8] = b"\x6f\x06\x00\x01\x01\x00k\x01\x00v\x6f\x01\x00\x00k";
 
 const OK_AND_VALUE: &[u8] = b"\x02\x00\x00\x00ok\x01\x00\x00\x00v";
@@ -140,6 +187,120 @@ fn each_packet_has_its_moment(rt: HostRuntime) -> Result<(), Fail> {
     }
     assert_eq!(rt; told.as_slice(), [10, 15, 20, 31].as_slice());
     Ok(())
+}
+
+#[test]
+fn numbers_end_at_their_type(rt: HostRuntime) -> Result<(), Fail> {
+    let largest = [255, 255, 255, 255, 255, 255, 255, 127];
+    let least = [0, 0, 0, 0, 0, 0, 0, 128];
+    let rows: [(Command, &[u8]); 9] = [
+        (of(b"set", b"k", &largest), b"ok"),
+        (of(b"inc", b"k", b""), b"range"),
+        (of(b"num", b"k", b""), b"number 9223372036854775807"),
+        (
+            Command {
+                amount: b"0",
+                ..of(b"div", b"k", b"")
+            },
+            b"zero divisor",
+        ),
+        (of(b"set", b"j", b"seven77"), b"ok"),
+        (of(b"num", b"j", b""), b"not a number"),
+        (of(b"set", b"m", &least), b"ok"),
+        (
+            Command {
+                amount: b"-1",
+                ..of(b"div", b"m", b"")
+            },
+            b"range",
+        ),
+        (of(b"inc", b"z", b""), b"number 1"),
+    ];
+    let (output, wanted) = answered(rt.alloc(), &rows, &[])?;
+    assert_eq!(rt; output.as_slice(), wanted.as_slice());
+    Ok(())
+}
+
+#[test]
+fn a_moment_that_runs_back_finds_what_had_died(rt: HostRuntime) -> Result<(), Fail> {
+    let rows: [(Command, &[u8]); 3] = [
+        (
+            Command {
+                expires: b"10",
+                ..of(b"set", b"k", b"v")
+            },
+            b"ok",
+        ),
+        (of(b"get", b"k", b""), b"missing"),
+        (of(b"get", b"k", b""), b"value\nv"),
+    ];
+    let (output, wanted) = answered(rt.alloc(), &rows, &[10, 20, 19])?;
+    assert_eq!(rt; output.as_slice(), wanted.as_slice());
+    Ok(())
+}
+
+#[test]
+fn each_command_has_its_reply(rt: HostRuntime) -> Result<(), Fail> {
+    let rows: [(Command, &[u8]); 20] = [
+        (of(b"exists", b"a", b""), b"no"),
+        (of(b"set", b"a", b"1"), b"ok"),
+        (of(b"exists", b"a", b""), b"yes"),
+        (of(b"set", b"a", b"2"), b"exists"),
+        (of(b"update", b"a", b"2"), b"ok"),
+        (of(b"get", b"a", b""), b"value\n2"),
+        (of(b"update", b"b", b""), b"ok"),
+        (of(b"keys", b"", b""), b"keys\n\x01\x00b\x01\x00a"),
+        (of(b"sweep", b"", b""), b"number 0"),
+        (of(b"del", b"a", b""), b"ok"),
+        (of(b"del", b"a", b""), b"missing"),
+        (of(b"inc", b"n", b""), b"number 1"),
+        (
+            Command {
+                amount: b"-7",
+                ..of(b"mul", b"n", b"")
+            },
+            b"number -7",
+        ),
+        (
+            Command {
+                amount: b"2",
+                ..of(b"div", b"n", b"")
+            },
+            b"number -3",
+        ),
+        (of(b"dec", b"n", b""), b"number -4"),
+        (of(b"clear", b"", b""), b"ok"),
+        (of(b"num", b"n", b""), b"number 0"),
+        (of(b"nothing", b"n", b""), b"unknown command"),
+        (
+            Command {
+                amount: b"+1",
+                ..of(b"get", b"n", b"")
+            },
+            b"bad number",
+        ),
+        (of(b"get", b"", b""), b"key length"),
+    ];
+    let (output, wanted) = answered(rt.alloc(), &rows, &[])?;
+    assert_eq!(rt; output.as_slice(), wanted.as_slice());
+    Ok(())
+}
+
+// What a run of the rows' commands writes, and the frames of their texts.
+fn answered(
+    alloc: Global,
+    rows: &[(Command, &[u8])],
+    moments: &[u64],
+) -> Result<(Vec<u8>, Vec<u8>), AllocError> {
+    let mut input = Vec::new(alloc);
+    let mut wanted = Vec::new(alloc);
+    for (command, text) in rows {
+        input.extend_from_slice(commanded(alloc, command)?.as_slice())?;
+        wanted.extend_from_slice(&[(text.len() % 256) as u8, 0, 0, 0])?;
+        wanted.extend_from_slice(text)?;
+    }
+    let ran = ran(alloc, &["pipe"], input.as_slice(), moments, &[], &[])?;
+    Ok((ran.output, wanted))
 }
 
 #[test]
