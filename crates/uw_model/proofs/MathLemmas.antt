@@ -92,7 +92,12 @@ unless_numbers conf key number dies alive list false a rest refusal go = go refl
 placed_numbers : (conf : CacheConf) (list : List Entry) (key : List ℕ) (number : ℤ) (dies : ℕ) (alive : Option Entry) (kept : Option (List Entry)) → is_bad_key conf key ≡ false → is_no_number alive ≡ false → is_in_range number ≡ true → Numbers conf key number dies alive (placed conf list key (bytes_of_number number) dies (answers.Number number) kept)
 placed_numbers conf list key number dies alive None good eight range = λ h. absurd (both_ways true h refl)
 placed_numbers conf list key number dies alive (Some kept) good eight range = λ _. record {
-  kept = kept; first = unwrap_or (first_run conf kept (span conf (bytes_of_number number))) 0; good = good; eight = eight; range = range; is = refl;
+  kept = kept;
+  first = unwrap_or (first_run conf kept (span conf (bytes_of_number number))) 0;
+  good = good;
+  eight = eight;
+  range = range;
+  is = refl;
 }
 
 math_numbers : (conf : CacheConf) (list : List Entry) (now : ℕ) (op : MathOp) (key : List ℕ) (by : ℤ) (ttl : ℕ) → Numbers conf key (result_of op (number_at (alive_at conf list now key)) by) (dies_of_number now ttl (alive_at conf list now key)) (alive_at conf list now key) (outcome conf list now (calls.Math op key by ttl))
@@ -140,8 +145,9 @@ found_passes : {X : Type 0} (test : X → Bool) (xs : List X) (x : X) → find t
 found_passes test [] x found = absurd (none-some x found)
 found_passes test (y ∷ xs) x found =
     elim (cases_choice (test y) (Some y) (find test xs) x found) [
-      inl h ↦ rw (← (same_Some y x h.1)) h.0
-    | inr h ↦ found_passes test xs x h.1 ]
+      | inl h ↦ rw (← (same_Some y x h.1)) h.0
+      | inr h ↦ found_passes test xs x h.1
+    ]
 
 alive_same : (conf : CacheConf) (now : ℕ) (e o : Entry) → e.dies ≡ o.dies → is_alive conf now o ≡ true → is_alive conf now e ≡ true
 alive_same conf now e o same alive = ap (λ (d : ℕ). d == 0 || conf.purge_lru || nat_lt now d) same ∙ alive
@@ -149,8 +155,9 @@ alive_same conf now e o same alive = ap (λ (d : ℕ). d == 0 || conf.purge_lru 
 written_before : (ttl now : ℕ) → now < 2 ^ 64 - 1 → (dies_at now ttl ≡ 0) ⊎ (now < dies_at now ttl)
 written_before ttl now early =
     elim (cases_Bool (ttl == 0)) [
-      inl none ↦ inl (rw none refl)
-    | inr some ↦ (let long = eqb-false ttl 0 some in inr (rw some (omega arith))) ]
+      | inl none ↦ inl (rw none refl)
+      | inr some ↦ (let long = eqb-false ttl 0 some in inr (rw some (omega arith)))
+    ]
 
 alive_written : (conf : CacheConf) (now ttl : ℕ) (e : Entry) → now < 2 ^ 64 - 1 → e.dies ≡ dies_at now ttl → is_alive conf now e ≡ true
 alive_written conf now ttl e early dies = alive_before conf e now (rw dies (written_before ttl now early))
@@ -159,8 +166,9 @@ alive_still : (conf : CacheConf) (now ttl : ℕ) (e : Entry) (alive : Option Ent
 alive_still conf now ttl e None early each dies = alive_written conf now ttl e early dies
 alive_still conf now ttl e (Some o) early each dies =
     elim (cases_Bool (ttl == 0)) [
-      inl none ↦ alive_same conf now e o (rw none at dies) (each o refl)
-    | inr some ↦ alive_written conf now ttl e early (dies ∙ (rw some refl)) ]
+      | inl none ↦ alive_same conf now e o (rw none at dies) (each o refl)
+      | inr some ↦ alive_written conf now ttl e early (dies ∙ (rw some refl))
+    ]
 
 pub added_sum : (conf : CacheConf) (list : List Entry) (now ttl : ℕ) (key : List ℕ) (before : ℤ) (amounts : List ℤ) → now < 2 ^ 64 - 1 → answer conf list now (calls.Num key) ≡ answers.Number before → AreAdded conf list now key ttl amounts → answer conf (added conf list now key ttl amounts) now (calls.Num key) ≡ answers.Number (fold ◌+ℤ◌ before amounts)
 added_sum conf list now ttl key before [] early said added_all = said

@@ -97,7 +97,10 @@ front_here conf list n count fit = record { size = count; within = omega arith; 
 
 front_below : (conf : CacheConf) (list : List Entry) (n count : ℕ) (front : List Entry) → fits conf (take (suc count) list) n ≡ false → IsFrontUpTo conf list n count front → IsFrontUpTo conf list n (suc count) front
 front_below conf list n count front fails h = record {
-  size = h.size; within = omega (arith, h.within); same = h.same; room = h.room;
+  size = h.size;
+  within = omega (arith, h.within);
+  same = h.same;
+  room = h.room;
   longest = λ more above below. elim (cases_eq more (suc count)) [ inl q ↦ rw q fails | inr apart ↦ h.longest more above (omega arith) ];
 }
 
@@ -106,8 +109,9 @@ unfolding longest_front
 front_up_to conf list n zero empty = ([], rw empty refl, front_here conf list n 0 empty)
 front_up_to conf list n (suc count) empty =
     elim (cases_Bool (fits conf (take (suc count) list) n)) [
-      inl fit ↦ (take (suc count) list, rw fit refl, front_here conf list n (suc count) fit)
-    | inr fails ↦ (let h = front_up_to conf list n count empty in (h.0, rw fails h.1, front_below conf list n count h.0 fails h.2)) ]
+      | inl fit ↦ (take (suc count) list, rw fit refl, front_here conf list n (suc count) fit)
+      | inr fails ↦ (let h = front_up_to conf list n count empty in (h.0, rw fails h.1, front_below conf list n count h.0 fails h.2))
+    ]
 
 longest_of : (conf : CacheConf) (list : List Entry) (n : ℕ) (front : List Entry) → IsFrontUpTo conf list n (length list) front → IsLongestFront conf list n front
 longest_of conf list n front h = record { count = h.size; within = h.within; same = h.same; room = h.room; longest = h.longest }
@@ -124,7 +128,10 @@ some_and o x P e h = rw e h
 
 whole_front : (conf : CacheConf) (list : List Entry) (n : ℕ) → fits conf list n ≡ true → IsLongestFront conf list n list
 whole_front conf list n fit = record {
-  count = length list; within = omega arith; same = sym (take_all (length list) list (omega arith)); room = fit;
+  count = length list;
+  within = omega arith;
+  same = sym (take_all (length list) list (omega arith));
+  room = fit;
   longest = λ more above below. absurd (omega arith);
 }
 
@@ -142,6 +149,7 @@ purged_room conf list n now front purges fails longest =
 pub purge_room : (conf : CacheConf) (list : List Entry) (n now : ℕ) → IsCacheConf conf → n ≤ conf.blocks → IsTrue conf.purge_lru → IsSomeAnd (room conf list n now) (IsLongestFront conf list n)
 purge_room conf list n now is within purges =
     elim (cases_Bool (fits conf list n)) [
-      inl fit ↦ some_and (room conf list n now) list (IsLongestFront conf list n) (cond-true (fits conf list n) (Some list) _ fit) (whole_front conf list n fit)
-    | inr fails ↦ (let h = front_up_to conf list n (length list) (empty_fits conf n is within) in
-        some_and (room conf list n now) h.0 (IsLongestFront conf list n) (purged_room conf list n now h.0 purges fails h.1) (longest_of conf list n h.0 h.2)) ]
+      | inl fit ↦ some_and (room conf list n now) list (IsLongestFront conf list n) (cond-true (fits conf list n) (Some list) _ fit) (whole_front conf list n fit)
+      | inr fails ↦ (let h = front_up_to conf list n (length list) (empty_fits conf n is within) in
+          some_and (room conf list n now) h.0 (IsLongestFront conf list n) (purged_room conf list n now h.0 purges fails h.1) (longest_of conf list n h.0 h.2))
+    ]

@@ -64,8 +64,7 @@ pub fn questions_change_nothing()
     ensures num { (conf : CacheConf) (list : List Entry) (now : ℕ) (key : List ℕ)
         → next_state conf list now (calls.Num key) ≡ list }
     ensures keys { (conf : CacheConf) (list : List Entry) (now : ℕ) → next_state conf list now calls.Keys ≡ list }
-{
-}
+{}
 
 /// With `purge_lru` there is always room for a value that may be written, and it is made by dropping no more of the
 /// least recent entries than needed.
@@ -73,36 +72,32 @@ pub fn purge_keeps_the_longest_front()
     ensures { (conf : CacheConf) (list : List Entry) (n now : ℕ)
         → IsCacheConf conf → n ≤ conf.blocks → IsTrue conf.purge_lru
         → IsSomeAnd (room conf list n now) (IsLongestFront conf list n) }
-{
-}
+{}
 
 /// An update that finds the cache full leaves the old value, and each get answers as before.
 pub fn full_update_keeps_the_value()
     ensures { (conf : CacheConf) (list : List Entry) (now later ttl : ℕ) (key value : List ℕ)
         → answer conf list now (calls.Update key value ttl) ≡ answers.Full
         → answer conf (next_state conf list now (calls.Update key value ttl)) later (calls.Get key)
-            ≡ answer conf list later (calls.Get key) }
-{
-}
+        ≡ answer conf list later (calls.Get key) }
+{}
 
 /// No block is covered by two entries of a well-formed list.
 pub fn no_block_is_covered_twice()
     ensures { (conf : CacheConf) (list : List Entry) (i j block : ℕ) (d : Entry)
         → IsState conf list → i < j → j < length list
         → covers conf (slice_index_or list i d) block → covers conf (slice_index_or list j d) block → ⊥ }
-{
-}
+{}
 
 /// The number that a number call answered is the number of the key, at each moment before the entry dies.
 pub fn answered_number_is_kept()
     ensures { (conf : CacheConf) (list : List Entry) (now later ttl : ℕ) (key : List ℕ) (op : MathOp) (by number : ℤ)
         → answer conf list now (calls.Math op key by ttl) ≡ answers.Number number
         → (dies_of_number now ttl (alive_at conf list now key) ≡ 0)
-            ⊎ (later < dies_of_number now ttl (alive_at conf list now key))
+        ⊎ (later < dies_of_number now ttl (alive_at conf list now key))
         → answer conf (next_state conf list now (calls.Math op key by ttl)) later (calls.Num key)
-            ≡ answers.Number number }
-{
-}
+        ≡ answers.Number number }
+{}
 
 /// The number of a key after amounts were added to it is the number before and the sum of the amounts. The last moment
 /// of all is left out, since an entry that is written then to live for some time is dead at once.
@@ -112,6 +107,5 @@ pub fn number_is_the_sum_of_the_amounts()
         → answer conf list now (calls.Num key) ≡ answers.Number before
         → AreAdded conf list now key ttl amounts
         → answer conf (added conf list now key ttl amounts) now (calls.Num key)
-            ≡ answers.Number (fold ◌+ℤ◌ before amounts) }
-{
-}
+        ≡ answers.Number (fold ◌+ℤ◌ before amounts) }
+{}
