@@ -69,7 +69,8 @@ pub fn put_decimal(out: &mut Bytes, n: u64) -> Result<(), Memory>
     ensures ok { OnOk result (out.new ≡ out.old ++ decimal n) }
     ensures err { OnErr result (out.new ≡ out.old) }
 {
-    out.append(Buffer::new().format(n).as_bytes())
+    let mut digits = Buffer::new();
+    out.append(digits.format(n).as_bytes())
 }
 
 /// Puts a number in decimal at the end, without leading zeros, with a `-` in front where it is negative.
@@ -77,7 +78,8 @@ pub fn put_signed(out: &mut Bytes, n: i64) -> Result<(), Memory>
     ensures ok { OnOk result (out.new ≡ out.old ++ signed_decimal n) }
     ensures err { OnErr result (out.new ≡ out.old) }
 {
-    out.append(Buffer::new().format(n).as_bytes())
+    let mut text = Buffer::new();
+    out.append(text.format(n).as_bytes())
 }
 
 /// The hash DJB33X of a key, a number below 2^32 (The Caching framework).

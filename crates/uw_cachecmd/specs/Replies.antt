@@ -1,5 +1,5 @@
 -- The reply texts (own rule).
-use Rattle.std.specs.Prelude.{ℕ, ◌==◌, Bool, true, false, if◌then◌else◌, List, [], ◌∷◌, ◌++◌, codes}
+use Rattle.std.specs.Prelude.{ℕ, ◌==◌, true, false, if◌then◌else◌, List, [], ◌++◌, codes}
 use Rattle.std.specs.Fmt.{signed_decimal}
 use Rattle.uw_packet.specs.Blocks.{array_of}
 use Rattle.uw_model.specs.declared.calls.Answer.{Answer}

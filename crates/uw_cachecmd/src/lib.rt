@@ -3,6 +3,8 @@
 
 pub mod commands;
 pub mod reply;
+#[cfg(test)]
+mod tests;
 
 pub use commands::{CmdFault, command};
 pub use reply::{cache_reply, fault_reply};

@@ -39,6 +39,14 @@ pub chosen_none : {A : Type 0} (b : Bool) (x : A) → cond b (Some x) None ≡ N
 chosen_none true x e = absurd cc
 chosen_none false x e = refl
 
+-- a first text that is whole, and the texts behind it
+abbrev behind_text : List ℕ → List (List ℕ) × List ℕ → List (List ℕ) × List ℕ
+behind_text text others = (text ∷ others.0, others.1)
+
+first_whole : (whole : Bool) (text bytes : List ℕ) (behind others : List (List ℕ) × List ℕ) → whole ≡ true → behind ≡ others → cond whole (behind_text text behind) ([], bytes) ≡ behind_text text others
+first_whole true text bytes behind others e same = ap (behind_text text) same
+first_whole false text bytes behind others e same = absurd cc
+
 -- where the first text is whole, it stands before those of the rest
 pub array_front-some : (bytes text rest : List ℕ) → first_text bytes ≡ Some (text, rest) → array_front bytes ≡ (text ∷ (array_front rest).0, (array_front rest).1)
 unfolding array_front texts_front
@@ -47,13 +55,10 @@ array_front-some (a ∷ []) text rest e = absurd cc
 array_front-some (low ∷ high ∷ bytes) text rest e =
     let n = text_length low high in
     let c = chosen_some (leb n (length bytes)) (take n bytes, drop n bytes) (text, rest) e in
-    let text_is : take n bytes ≡ text = ap (λ (p : List ℕ × List ℕ). p.0) c.1 in
-    let rest_is : drop n bytes ≡ rest = ap (λ (p : List ℕ × List ℕ). p.1) c.1 in
     let shorter = length-drop n bytes in
-    let same : texts_front (suc (length bytes)) (drop n bytes) ≡ texts_front (length (drop n bytes)) (drop n bytes) = texts_front-same (suc (length bytes)) (length (drop n bytes)) (drop n bytes) (omega arith) (omega arith) in
-    ap (λ (b : Bool). cond b (take n bytes ∷ (texts_front (suc (length bytes)) (drop n bytes)).0, (texts_front (suc (length bytes)) (drop n bytes)).1) ([], low ∷ high ∷ bytes)) c.0
-    ∙ ap (λ (r : List (List ℕ) × List ℕ). (take n bytes ∷ r.0, r.1)) same
-    ∙ ap (λ (p : List ℕ × List ℕ). (p.0 ∷ (texts_front (length p.1) p.1).0, (texts_front (length p.1) p.1).1)) c.1
+    let same : texts_front (suc (length bytes)) (drop n bytes) ≡ array_front (drop n bytes) = texts_front-same (suc (length bytes)) (length (drop n bytes)) (drop n bytes) (omega arith) (omega arith) in
+    first_whole (leb n (length bytes)) (take n bytes) (low ∷ high ∷ bytes) (texts_front (suc (length bytes)) (drop n bytes)) (array_front (drop n bytes)) c.0 same
+    ∙ ap (λ (p : List ℕ × List ℕ). (p.0 ∷ (array_front p.1).0, (array_front p.1).1)) c.1
 
 -- where it is not, there is none
 pub array_front-none : (bytes : List ℕ) → first_text bytes ≡ None → array_front bytes ≡ ([], bytes)

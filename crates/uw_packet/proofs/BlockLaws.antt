@@ -15,11 +15,11 @@ use Rattle.uw_packet.proofs.Arrays.{text_length, chosen_some, array_front, array
 -- ---- one text
 
 -- the two bytes of a length give it back
-text_length-bytes : (n : ℕ) → n < 65536 → text_length (byte_at 0 n) (byte_at 1 n) ≡ n
+pub text_length-bytes : (n : ℕ) → n < 65536 → text_length (byte_at 0 n) (byte_at 1 n) ≡ n
 text_length-bytes n short = omega arith
 
 -- and a length that two bytes gave has just these bytes
-byte_at-text_length : (low high : ℕ) → low < 256 → high < 256 → (byte_at 0 (text_length low high) ≡ low) × (byte_at 1 (text_length low high) ≡ high)
+pub byte_at-text_length : (low high : ℕ) → low < 256 → high < 256 → (byte_at 0 (text_length low high) ≡ low) × (byte_at 1 (text_length low high) ≡ high)
 byte_at-text_length low high a b = (omega arith, omega arith)
 
 -- a sized text is the first text, whatever follows it

@@ -2,3 +2,4 @@ pub mod Packet
 pub mod Blocks
 pub mod Reads
 pub mod BlockReads
+pub mod PacketFront

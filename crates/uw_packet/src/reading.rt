@@ -60,8 +60,8 @@ pub fn read_block<S: Source>(alloc: Global, src: &mut S, size: u16) -> Result<By
     let mut block = vec![in alloc; 0u8; usize::from(size)].map_err(|_| PacketFault::Memory)?;
     match fill(src, block.as_mut_slice()) {
         Filled::Whole => Ok(Bytes::from_vec(block)),
-        Filled::Short(got) => Err(PacketFault::Truncated {
-            got: got as u64,
+        Filled::Short(came) => Err(PacketFault::Truncated {
+            got: came as u64,
             want: u64::from(size),
         }),
         Filled::Failed(_) => Err(PacketFault::ReadFault),

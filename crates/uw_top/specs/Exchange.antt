@@ -46,7 +46,7 @@ packet_bytes x = header_bytes x.head ++ x.block
 
 -- the modifiers that are served
 abbrev pub is_served : ℕ → ℕ → Bool
-is_served m1 m2 = m1 == 111 && (m2 == 0 || m2 == 1)
+is_served m1 m2 = m1 == 111 && (m2 == 0 || m2 == 1 || m2 == 2 || m2 == 200)
 
 -- why a header is refused, before its block is read: its size, and then its modifiers
 abbrev pub refusal_of : Header → Option BadPacket

@@ -15,7 +15,7 @@ use Rattle.uw_top.specs.declared.ends.BadPacket.TheVariants as bad
 use Rattle.uw_top.specs.declared.ends.Brief.{Brief}
 use Rattle.uw_top.specs.declared.ends.RunFault.{RunFault}
 use Rattle.uw_top.specs.declared.ends.RunFault.TheVariants as faults
-use Rattle.uw_top.specs.Exchange.{Exchange, packet_bytes, refusal_of, broken_at, asked_by, reply_of, frame_of, IsAnswered}
+use Rattle.uw_top.specs.Exchange.{Exchange, packet_bytes, refusal_of, broken_at, asked_by, reply_of, frame, frame_of, IsAnswered}
 use Rattle.uw_top.specs.Pipe.{IsTruncated, EndsBy, brief_of, bytes_of, frames_from, moments_of, list_from}
 
 -- the fault of a run that a fault of the source is
@@ -39,13 +39,17 @@ TakesPacket r (Err faults.Usage) = ⊥
 TakesPacket r (Err faults.WriteFault) = ⊥
 TakesPacket r (Err faults.TooMany) = ⊥
 
--- a packet was answered by its frame, and the cache holds the list after it; or its block is out of its grammar; or there was no memory
+-- a packet was answered by its reply, in some form, and the cache holds the list after it; or its block is out of its grammar; or there was no memory
+abbrev pub RepliesTo : (List ℕ → List ℕ) → CacheConf → List Entry → List Entry → Exchange → Result (List ℕ) RunFault → Type 0
+RepliesTo form conf list after x (Ok written) =
+    (written ≡ form (reply_of conf list x).text) × (after ≡ (reply_of conf list x).list) × (broken_at (asked_by conf x.head x.block) ≡ None)
+RepliesTo form conf list after x (Err (faults.BadPacket (bad.BadBlock at))) = broken_at (asked_by conf x.head x.block) ≡ Some at
+RepliesTo form conf list after x (Err faults.Memory) = Unit {0}
+RepliesTo form conf list after x (Err _) = ⊥
+
+-- a packet was answered by its frame
 abbrev pub AnswersPacket : CacheConf → List Entry → List Entry → Exchange → Result (List ℕ) RunFault → Type 0
-AnswersPacket conf list after x (Ok written) =
-    (written ≡ frame_of conf list x) × (after ≡ (reply_of conf list x).list) × (broken_at (asked_by conf x.head x.block) ≡ None)
-AnswersPacket conf list after x (Err (faults.BadPacket (bad.BadBlock at))) = broken_at (asked_by conf x.head x.block) ≡ Some at
-AnswersPacket conf list after x (Err faults.Memory) = Unit {0}
-AnswersPacket conf list after x (Err _) = ⊥
+AnswersPacket conf list after x result = RepliesTo frame conf list after x result
 
 -- a turn that was the last: what it took, wrote and was told, and why
 pub record Stops (conf : CacheConf) (list : List Entry) (src : Reading) (taken taken_now : Option (List ℕ)) (sink_before sink_now : ℕ)

@@ -7,3 +7,6 @@ mod runs;
 
 pub use ends::{BadPacket, Brief, BriefList, RunEnd, RunFault, fault_text};
 pub use runs::run;
+
+#[cfg(test)]
+mod tests;

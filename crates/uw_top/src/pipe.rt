@@ -2,7 +2,7 @@
 ghost use Rattle.std.specs.Prelude.{◌≡◌, ◌≤◌, ◌∷◌, [], length, Option, None, IfOk, IfErr};
 ghost use Rattle.uw_top.specs.declared.ends.RunFault.TheVariants as faults;
 ghost use Rattle.uw_top.specs.Exchange.{frame, refusal_of};
-ghost use Rattle.uw_top.specs.Turns.{AnswersPacket, LooksFurther, TakesPacket, Turns, fault_of};
+ghost use Rattle.uw_top.specs.Turns.{AnswersPacket, LooksFurther, RepliesTo, TakesPacket, Turns, fault_of};
 
 use crate::{BadPacket, Brief, RunFault};
 use byteorder::{ByteOrder, LittleEndian};
@@ -27,7 +27,7 @@ fn judge(head: &Header) -> Option<BadPacket>
         });
     }
     match (head.m1, head.m2) {
-        (111, 0 | 1) => None,
+        (111, 0 | 1 | 2 | 200) => None,
         (m1, m2) => Some(BadPacket::NoModifier { m1, m2 }),
     }
 }
@@ -81,6 +81,33 @@ pub struct Pipe {
     pub briefs: Vec<Brief>,
 }
 
+// The reply to a packet.
+fn reply(
+    alloc: Global,
+    cache: &mut ListCache,
+    names: &BytesList,
+    moment: u64,
+    packet: &Packet,
+) -> Result<Bytes, RunFault>
+    requires names { names.now ≡ cache.old.conf.name ∷ [] }
+    requires accepted { refusal_of packet.now.head ≡ None }
+    requires size { length packet.now.block ≡ packet.now.head.size }
+    ensures reply { RepliesTo (λ text. text) cache.old.conf cache.old.list cache.new.list
+        (record { moment = moment; head = packet.now.head; block = packet.now.block }) result }
+    ensures conf { cache.new.conf ≡ cache.old.conf }
+{
+    let m2 = packet.head.m2;
+    match command(alloc, m2, packet.block.as_slice(), names) {
+        Ok(Ask::Cache { call, .. }) => {
+            let answer = cache.call(alloc, moment, &call)?;
+            Ok(cache_reply(alloc, m2, &answer)?)
+        }
+        Err(CmdFault::BadBlock { at }) => Err(RunFault::BadPacket(BadPacket::BadBlock { at })),
+        Err(CmdFault::Memory) => Err(RunFault::Memory),
+        Err(fault) => Ok(fault_reply(alloc, m2, &fault)?),
+    }
+}
+
 // The frame that answers a packet.
 fn answer(
     alloc: Global,
@@ -96,19 +123,10 @@ fn answer(
         (record { moment = moment; head = packet.now.head; block = packet.now.block }) result }
     ensures conf { cache.new.conf ≡ cache.old.conf }
 {
-    let m2 = packet.head.m2;
-    let reply = match command(alloc, m2, packet.block.as_slice(), names) {
-        Ok(Ask::Cache { call, .. }) => {
-            let answer = cache.call(alloc, moment, &call)?;
-            cache_reply(alloc, m2, &answer)?
-        }
-        Err(CmdFault::BadBlock { at }) => {
-            return Err(RunFault::BadPacket(BadPacket::BadBlock { at }));
-        }
-        Err(CmdFault::Memory) => return Err(RunFault::Memory),
-        Err(fault) => fault_reply(alloc, m2, &fault)?,
-    };
-    frame(alloc, &reply)
+    match reply(alloc, cache, names, moment, packet) {
+        Ok(reply) => frame(alloc, &reply),
+        Err(fault) => Err(fault),
+    }
 }
 
 // A reply behind its length modulo 2^32 in four bytes.

@@ -1,16 +1,17 @@
 // The top call.
-ghost use Rattle.std.specs.Prelude.{◌≡◌, [], ◌∷◌, IfOk, IsTrue, not, map, None, Some};
+ghost use Rattle.std.specs.Prelude.{◌≡◌, ◌⊎◌, [], ◌∷◌, IfOk, IfNone, IfSome, true, false, if◌then◌else◌, map, None, Some};
 ghost use Rattle.std.specs.String.{string_bytes};
 ghost use Rattle.uw_top.specs.declared.ends.RunFault.TheVariants as faults;
 ghost use Rattle.uw_top.specs.Ends.{status_of};
 ghost use Rattle.uw_top.specs.Exchange.{fixed_cache};
 ghost use Rattle.uw_top.specs.Pipe.{PipeRun};
-ghost use Rattle.uw_top.specs.Run.{is_pipe};
+ghost use Rattle.uw_top.specs.Run.{is_built, is_pipe};
 
 use crate::pipe::{Pipe, look_further, turn};
 use crate::{BriefList, RunEnd, RunFault};
 use std::alloc::Global;
 use uw_base::{Bytes, BytesList, Memory};
+use uw_ends::{Command, WordsFault, read_words};
 use uw_model::{CacheConf, ListCache};
 use uw_outside::{Clock, Sink, Source};
 
@@ -29,16 +30,17 @@ pub fn run<S: Source, K: Sink, C: Clock>(
     ensures status { result.status ≡ status_of result.fault }
 
     // Other words are refused, before anything is read.
-    ensures usage { IsTrue (not (is_pipe (map string_bytes words.now))) → result.fault ≡ Some faults.Usage }
-    ensures untouched { IsTrue (not (is_pipe (map string_bytes words.now))) → src.new ≡ src.old × snk.new ≡ snk.old × clock.new ≡ clock.old }
+    ensures usage { is_pipe (map string_bytes words.now) ≡ false → (result.fault ≡ Some faults.Usage) ⊎ (result.fault ≡ Some faults.Memory) }
+    ensures untouched { is_pipe (map string_bytes words.now) ≡ false → (src.new ≡ src.old) × (snk.new ≡ snk.old) × (clock.new ≡ clock.old) × (result.briefs ≡ []) }
 
     // What was read, what was written for it, and why it ended there.
-    ensures piped { IsTrue (is_pipe (map string_bytes words.now)) → PipeRun fixed_cache
+    ensures piped { is_pipe (map string_bytes words.now) ≡ true → PipeRun fixed_cache
         (record { before = S.left src.old; now = S.left src.new; ended = S.ended src.new; faults_before = S.faults src.old; faults_now = S.faults src.new })
         (K.taken snk.old) (K.taken snk.new) (K.faults snk.old) (K.faults snk.new) (C.gave clock.old clock.new) result.briefs result.fault }
 {
-    if !are_pipe(words) {
-        return end(Some(RunFault::Usage), BriefList::new(alloc));
+    match refusal(alloc, words) {
+        None => {}
+        Some(fault) => return end(Some(fault), BriefList::new(alloc)),
     }
     let mut pipe = match open(alloc) {
         Ok(pipe) => pipe,
@@ -49,13 +51,31 @@ pub fn run<S: Source, K: Sink, C: Clock>(
     end(fault, BriefList::from_vec(briefs))
 }
 
-// Whether the words are the one word `pipe`.
-fn are_pipe(words: &[String]) -> bool
-    ensures { result ≡ is_pipe (map string_bytes words.now) }
+// Why nothing is served for the words: they are no command that is built, or there was no memory to read them.
+fn refusal(alloc: Global, words: &[String]) -> Option<RunFault>
+    ensures none { IfNone result (is_pipe (map string_bytes words.now) ≡ true) }
+    ensures some { IfSome result (λ fault. ((fault ≡ faults.Usage) × (is_pipe (map string_bytes words.now) ≡ false)) ⊎ (fault ≡ faults.Memory)) }
 {
-    match words {
-        [word] => word.as_bytes() == b"pipe".as_slice(),
-        _ => false,
+    match read_words(alloc, words) {
+        Ok(command) => unbuilt(&command),
+        Err(WordsFault::Usage) => Some(RunFault::Usage),
+        Err(WordsFault::Memory) => Some(RunFault::Memory),
+    }
+}
+
+// Usage, where a command is not built yet.
+fn unbuilt(command: &Command) -> Option<RunFault>
+    ensures { result ≡ (if is_built (Some command.now) then None else Some faults.Usage) }
+{
+    match command {
+        Command::Pipe { die } => {
+            if die.as_slice().is_empty() {
+                None
+            } else {
+                Some(RunFault::Usage)
+            }
+        }
+        _ => Some(RunFault::Usage),
     }
 }
 

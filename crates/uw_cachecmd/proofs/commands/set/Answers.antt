@@ -1,5 +1,4 @@
-use Rattle.std.proofs.Common.{◌<◌, length, take, arith, get_or}
-use Rattle.uw_packet.specs.Blocks.{array_of}
+use Rattle.std.proofs.Common.{arith}
 use Rattle.uw_cachecmd.proofs.Lengths.{are_bytes, first_texts_fit}
 use Rattle.uw_cachecmd.proofs.commands.set.Goals as goal
 

@@ -1,7 +1,7 @@
-use Rattle.std.proofs.Common.{◌≡◌, ◌+◌, ◌<◌, ◌≤◌, Bool, true, false, ◌&&◌, ltb, List, [], ◌∷◌, ◌++◌, Some, None, ℕ, length, get_or, drop, refl, sym, ap, ◌∙◌, arith, length-append}
+use Rattle.std.proofs.Common.{◌≡◌, ◌<◌, ◌≤◌, true, ltb, List, [], ◌∷◌, ◌++◌, Some, ℕ, length, drop, refl, sym, ap, ◌∙◌, arith, length-append}
 use Rattle.std.specs.List.{list_all}
-use Rattle.std.proofs.lemmas.Bool.{lt-ltb, le-ltb}
-use Rattle.std.proofs.lemmas.List.{append-nil, drop_more, drop_all}
+use Rattle.std.proofs.lemmas.Bool.{lt-ltb}
+use Rattle.std.proofs.lemmas.List.{append-nil, drop_all}
 use Rattle.uw_base.specs.declared.variables.Pair.{Pair}
 use Rattle.uw_packet.specs.Blocks.{sized, array_of, texts_of_pairs}
 use Rattle.uw_packet.specs.BlockReads.{vars_block}
@@ -16,19 +16,6 @@ texts_short (text ∷ texts) short =
 
 vars_block-short : (pairs : List Pair) → length (array_of (texts_of_pairs pairs)) < 65536 → vars_block pairs ≡ Some (array_of (texts_of_pairs pairs))
 vars_block-short pairs short = rw (texts_short (texts_of_pairs pairs) short, lt-ltb (length (array_of (texts_of_pairs pairs))) 65536 short) refl
-
-and_false : (b : Bool) → (b && false) ≡ false
-and_false true = refl
-and_false false = refl
-
-vars_block-long : (pairs : List Pair) → 65536 ≤ length (array_of (texts_of_pairs pairs)) → vars_block pairs ≡ None
-vars_block-long pairs long = rw (le-ltb (length (array_of (texts_of_pairs pairs))) 65536 long, and_false (list_all (λ text. ltb (length text) 65536) (texts_of_pairs pairs))) refl
-
--- at a pair, its key and its value are next
-array_at : (pairs : List Pair) (i : ℕ) (pair : Pair) → i < length pairs → pair ≡ get_or pairs i pair → array_of (texts_of_pairs (drop i pairs)) ≡ sized pair.key ++ (sized pair.value ++ array_of (texts_of_pairs (drop (i + 1) pairs)))
-array_at pairs i pair within is =
-    ap (λ (rest : List Pair). array_of (texts_of_pairs rest)) (drop_more pairs i pair within)
-    ∙ ap (λ (first : Pair). array_of (texts_of_pairs (first ∷ drop (i + 1) pairs))) (sym is)
 
 -- after the last pair the bytes are the whole array
 whole_at_end : (pairs : List Pair) (i : ℕ) (block : List ℕ) → length pairs ≤ i → block ++ array_of (texts_of_pairs (drop i pairs)) ≡ array_of (texts_of_pairs pairs) → array_of (texts_of_pairs pairs) ≡ block
