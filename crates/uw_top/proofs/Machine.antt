@@ -1,5 +1,5 @@
 -- The packets of a run, one after the other.
-use Rattle.std.proofs.Common.{◌≡◌, ℕ, ◌+◌, ◌<◌, ◌≤◌, Bool, List, [], ◌∷◌, ◌++◌, length, Option, None, Some, refl, sym, ap, ◌∙◌, arith, append_assoc, map, true, subst, if◌then◌else◌, nat_lt}
+use Rattle.std.proofs.Common.{◌≡◌, ℕ, ◌+◌, ◌<◌, ◌≤◌, Bool, List, [], ◌∷◌, ◌++◌, length, Option, None, Some, refl, sym, ap, inl, lit<, ◌∙◌, arith, append_assoc, map, true, subst, if◌then◌else◌, nat_lt}
 use Rattle.std.specs.List.{flat_map, AllByRecursion}
 use Rattle.std.proofs.lemmas.List.{append-nil, length-append, map-append}
 use Rattle.std.proofs.lemmas.Grind.{flat_map-append}
@@ -106,7 +106,7 @@ ends_later : (conf : CacheConf) (list : List Entry) (left middle now : Option (L
 ends_later conf list left middle now ended f0 f1 f2 s0 s1 s2 count rest part late None lf ls few e = (e.0, e.1, e.2, asked_again count (length late) few e.3)
 ends_later conf list left middle now ended f0 f1 f2 s0 s1 s2 count rest part late (Some faults.Usage) lf ls few e = absurd e
 ends_later conf list left middle now ended f0 f1 f2 s0 s1 s2 count rest part late (Some faults.ReadFault) lf ls few e =
-    (rose_since f0 f1 f2 lf e.0, e.1, asked_again count (length late) few e.2)
+    (rose_since f0 f1 f2 lf e.0, e.1, e.2, asked_again count (length late) few e.3)
 ends_later conf list left middle now ended f0 f1 f2 s0 s1 s2 count rest part late (Some faults.WriteFault) lf ls few e = (rose_since s0 s1 s2 ls e.0, e.1)
 ends_later conf list left middle now ended f0 f1 f2 s0 s1 s2 count rest part late (Some (faults.Truncated got want)) lf ls few e =
     (e.0, e.1, e.2, asked_again count (length late) few e.3)
@@ -202,7 +202,7 @@ run_is_full gave conf held told left middle now taken taken_now clock mid ended 
     (s.count ∙ all, refl, refl, refl)
 run_is_full gave conf held told left middle now taken taken_now clock mid ended f0 f1 f2 s0 s1 (Some faults.ReadFault) turns lf all s t =
     full gave conf held told left middle now taken taken_now clock mid ended f0 f2 s0 s1 [] (Some faults.ReadFault) turns all s t.0
-    (rose_since f0 f1 f2 lf t.1, refl, asked_no_more (length s.packets) 0 refl (s.count ∙ all))
+    (rose_since f0 f1 f2 lf t.1, inl (lit< tt), refl, asked_no_more (length s.packets) 0 refl (s.count ∙ all))
 run_is_full gave conf held told left middle now taken taken_now clock mid ended f0 f1 f2 s0 s1 (Some faults.Usage) turns lf all s t = absurd t
 run_is_full gave conf held told left middle now taken taken_now clock mid ended f0 f1 f2 s0 s1 (Some faults.WriteFault) turns lf all s t = absurd t
 run_is_full gave conf held told left middle now taken taken_now clock mid ended f0 f1 f2 s0 s1 (Some (faults.Truncated got want)) turns lf all s t = absurd t

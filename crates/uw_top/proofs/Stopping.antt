@@ -38,11 +38,11 @@ no_memory conf list left taken ended f0 f1 k0 k1 moment gave told =
 pub not_taken : (conf : CacheConf) (list : List Entry) (r : Reading) (taken : Option (List ℕ)) (k0 k1 moment : ℕ) (gave : List ℕ → Type 0) (fault : RunFault)
     → gave (moment ∷ []) → TakesPacket r (Err fault) → Stops conf list r taken taken k0 k1 gave (Some fault)
 not_taken conf list r taken k0 k1 moment gave faults.ReadFault told t =
-    stopped conf list r taken k0 k1 moment gave t.1.0 (Some faults.ReadFault) told t.1.1 (t.0, refl, refl)
+    stopped conf list r taken k0 k1 moment gave t.1.0 (Some faults.ReadFault) told t.1.1 (t.0, t.1.2, refl, refl)
 not_taken conf list r taken k0 k1 moment gave (faults.Truncated got want) told t =
     stopped conf list r taken k0 k1 moment gave t.1.0 (Some (faults.Truncated got want)) told t.1.1 (t.1.2, refl, t.0, refl)
 not_taken conf list r taken k0 k1 moment gave (faults.BadPacket packet) told t =
-    stopped conf list r taken k0 k1 moment gave (header_bytes t.0) (Some (faults.BadPacket packet)) told t.1 (inl (t.0, refl, t.2), refl, refl)
+    stopped conf list r taken k0 k1 moment gave (header_bytes t.0) (Some (faults.BadPacket packet)) told t.2 (inl (t.0, t.1, refl, t.3), refl, refl)
 not_taken conf list r taken k0 k1 moment gave faults.Memory told t =
     stopped conf list r taken k0 k1 moment gave t.0 (Some faults.Memory) told t.1 (refl, omega arith)
 not_taken conf list r taken k0 k1 moment gave faults.Usage told t = absurd t

@@ -30,7 +30,11 @@ block_not_read before middle now ended f0 f1 f2 head (packets.Truncated got want
     )
 block_not_read before middle now ended f0 f1 f2 head packets.ReadFault taken later accepted read = (
   rose_since f0 f1 f2 later read.rose,
-  (header_bytes head ++ read.bytes.0, Takes-append before middle now (header_bytes head) read.bytes.0 taken read.bytes.2),
+  (
+    header_bytes head ++ read.bytes.0,
+    Takes-append before middle now (header_bytes head) read.bytes.0 taken read.bytes.2,
+    inr (head, read.bytes.0, refl, accepted, read.bytes.1),
+  ),
 )
 block_not_read before middle now ended f0 f1 f2 head packets.Memory taken later accepted read =
     (header_bytes head, rw read.0 taken)

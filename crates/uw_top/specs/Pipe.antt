@@ -1,5 +1,5 @@
 -- The machine of `pipe`: packet after packet, each answered by its frame, up to the end of the input or the first fault.
-use Rattle.std.specs.Prelude.{◌≡◌, ℕ, ◌+◌, ◌<◌, ◌≤◌, ◌⊎◌, nat_lt, if◌then◌else◌, List, [], ◌∷◌, ◌++◌, length, take, map, Option, None, Some, Err}
+use Rattle.std.specs.Prelude.{◌≡◌, ℕ, ◌+◌, ◌^◌, ◌<◌, ◌≤◌, ◌⊎◌, nat_lt, if◌then◌else◌, List, [], ◌∷◌, ◌++◌, length, take, map, Option, None, Some, Err}
 use Rattle.std.specs.List.{flat_map, AllByRecursion}
 use Rattle.uw_outside.specs.Faults.{Rose}
 use Rattle.uw_outside.specs.Streams.{Takes, Gives}
@@ -46,10 +46,15 @@ IsTruncated bytes got want =
     ((want ≡ 4) × (1 ≤ got) × (got < 4) × (length bytes ≡ got))
     ⊎ ((head : Header) × (block : List ℕ) × (bytes ≡ header_bytes head ++ block) × (refusal_of head ≡ None) × (want ≡ head.size) × (got < want) × (length block ≡ got))
 
+-- bytes that a packet may begin with, which is not whole yet: less than a header, or a header that is not refused and less than its block
+abbrev pub IsBegun : List ℕ → Type 0
+IsBegun bytes =
+    (length bytes < 4) ⊎ ((head : Header) × (block : List ℕ) × (bytes ≡ header_bytes head ++ block) × (refusal_of head ≡ None) × (length block < head.size))
+
 -- bytes whose first packet is refused: by its header alone, or by its whole block
 abbrev pub IsRefused : CacheConf → List ℕ → BadPacket → Type 0
 IsRefused conf bytes packet =
-    ((head : Header) × (bytes ≡ header_bytes head) × (refusal_of head ≡ Some packet))
+    ((head : Header) × (head.size < 2 ^ 16) × (bytes ≡ header_bytes head) × (refusal_of head ≡ Some packet))
     ⊎ ((head : Header) × (block : List ℕ) × (at : ℕ) × (bytes ≡ header_bytes head ++ block) × (refusal_of head ≡ None) × (length block ≡ head.size)
     × (broken_at (asked_by conf head block) ≡ Some at) × (packet ≡ bad.BadBlock at))
 
@@ -81,7 +86,7 @@ IsAskedOnce e = length e.late ≡ (if nat_lt e.count most_packets then 1 else 0)
 abbrev pub EndsBy : CacheConf → Ending → Option RunFault → Type 0
 EndsBy conf e None = (e.rest ≡ []) × (e.part ≡ []) × IsOver e.src × IsAskedOnce e
 EndsBy conf e (Some faults.Usage) = ⊥
-EndsBy conf e (Some faults.ReadFault) = Rose e.src.faults_before e.src.faults_now × (e.part ≡ []) × IsAskedOnce e
+EndsBy conf e (Some faults.ReadFault) = Rose e.src.faults_before e.src.faults_now × IsBegun e.rest × (e.part ≡ []) × IsAskedOnce e
 EndsBy conf e (Some faults.WriteFault) =
     Rose e.sink_before e.sink_now × ((moment : ℕ) × (e.late ≡ moment ∷ []) × IsUnwritten conf e.list moment e.rest e.part)
 EndsBy conf e (Some (faults.Truncated got want)) = IsTruncated e.rest got want × (e.part ≡ []) × IsOver e.src × IsAskedOnce e

@@ -1,5 +1,5 @@
 -- What the parts of one turn of `pipe` do: a packet is taken, answered and its frame written.
-use Rattle.std.specs.Prelude.{◌≡◌, ℕ, Bool, true, false, ◌<◌, List, [], ◌∷◌, ◌++◌, length, take, map, Option, None, Some, Result, Ok, Err}
+use Rattle.std.specs.Prelude.{◌≡◌, ℕ, ◌^◌, Bool, true, false, ◌<◌, List, [], ◌∷◌, ◌++◌, length, take, map, Option, None, Some, Result, Ok, Err}
 use Rattle.std.specs.List.{AllByRecursion}
 use Rattle.uw_outside.specs.Faults.{Rose}
 use Rattle.uw_outside.specs.Streams.{Takes, Gives}
@@ -16,7 +16,7 @@ use Rattle.uw_top.specs.declared.ends.Brief.{Brief}
 use Rattle.uw_top.specs.declared.ends.RunFault.{RunFault}
 use Rattle.uw_top.specs.declared.ends.RunFault.TheVariants as faults
 use Rattle.uw_top.specs.Exchange.{Exchange, packet_bytes, refusal_of, broken_at, asked_by, reply_of, frame, frame_of, IsAnswered}
-use Rattle.uw_top.specs.Pipe.{IsTruncated, EndsBy, brief_of, bytes_of, frames_from, moments_of, list_from}
+use Rattle.uw_top.specs.Pipe.{IsBegun, IsTruncated, EndsBy, brief_of, bytes_of, frames_from, moments_of, list_from}
 
 -- the fault of a run that a fault of the source is
 abbrev pub fault_of : PacketFault → RunFault
@@ -31,9 +31,9 @@ abbrev pub TakesPacket : Reading → Result (Option Packet) RunFault → Type 0
 TakesPacket r (Ok None) = Takes r.before r.now [] × IsOver r
 TakesPacket r (Ok (Some packet)) =
     Takes r.before r.now (header_bytes packet.head ++ packet.block) × (refusal_of packet.head ≡ None) × (length packet.block ≡ packet.head.size)
-TakesPacket r (Err faults.ReadFault) = Rose r.faults_before r.faults_now × ((bytes : List ℕ) × Takes r.before r.now bytes)
+TakesPacket r (Err faults.ReadFault) = Rose r.faults_before r.faults_now × ((bytes : List ℕ) × Takes r.before r.now bytes × IsBegun bytes)
 TakesPacket r (Err (faults.Truncated got want)) = IsOver r × ((bytes : List ℕ) × Takes r.before r.now bytes × IsTruncated bytes got want)
-TakesPacket r (Err (faults.BadPacket packet)) = (head : Header) × Takes r.before r.now (header_bytes head) × (refusal_of head ≡ Some packet)
+TakesPacket r (Err (faults.BadPacket packet)) = (head : Header) × (head.size < 2 ^ 16) × Takes r.before r.now (header_bytes head) × (refusal_of head ≡ Some packet)
 TakesPacket r (Err faults.Memory) = (bytes : List ℕ) × Takes r.before r.now bytes
 TakesPacket r (Err faults.Usage) = ⊥
 TakesPacket r (Err faults.WriteFault) = ⊥
