@@ -1,9 +1,9 @@
 -- Texts that are read in turn.
-use Rattle.std.proofs.Common.{◌≡◌, ◌∙◌, ◌<◌, ◌≤◌, ◌+◌, ℕ, zero, suc, List, [], ◌∷◌, ◌++◌, map, length, drop, Option, None, Some, option_map, refl, sym, ap, ap₂, arith}
+use Rattle.std.proofs.Common.{◌≡◌, ◌∙◌, ◌<◌, ◌+◌, ℕ, zero, suc, List, [], ◌∷◌, ◌++◌, map, length, drop, Option, None, Some, option_map, refl, sym, ap, ap₂, arith}
 use Rattle.std.specs.Prelude.{option_and_then}
 use Rattle.std.specs.List.{slice_index_or}
 use Rattle.std.specs.Borrow.{Bor}
-use Rattle.std.proofs.lemmas.List.{append_assoc, append-nil}
+use Rattle.std.proofs.lemmas.List.{append_assoc}
 use Rattle.uw_ends.specs.Numbers.{all_read}
 
 -- the texts behind references
@@ -44,11 +44,3 @@ pub read_fails : (read : List ℕ → Option ℕ) (all : Option (List ℕ)) (num
     → all ≡ before numbers (all_read read (drop i (texts xs))) → all ≡ None
 read_fails read all numbers xs i text d lt at is e =
     e ∙ ap (before numbers) (here read xs i text d lt at ∙ ap (λ (o : Option ℕ). first_of o (all_read read (drop (suc i) (texts xs)))) is)
-
--- each text was read
-pub read_ends : (read : List ℕ → Option ℕ) (all : Option (List ℕ)) (numbers : List ℕ) (xs : List (Bor (List ℕ))) (i : ℕ)
-    → length xs ≤ i → all ≡ before numbers (all_read read (drop i (texts xs))) → all ≡ Some numbers
-read_ends read all numbers [] zero le e = e ∙ ap (λ (ns : List ℕ). Some ns) (append-nil numbers)
-read_ends read all numbers [] (suc i) le e = e ∙ ap (λ (ns : List ℕ). Some ns) (append-nil numbers)
-read_ends read all numbers (x ∷ xs) zero le e = absurd (omega arith)
-read_ends read all numbers (x ∷ xs) (suc i) le e = read_ends read all numbers xs i (omega arith) e

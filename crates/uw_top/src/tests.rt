@@ -105,6 +105,11 @@ fn commanded(alloc: Global, command: &Command) -> Result<Vec<u8>, AllocError> {
 
 const SET_AND_GET: &[u8] = b"\x6f\x06\x00\x01\x01\x00k\x01\x00v\x6f\x01\x00\x00k";
 
+// The largest and the least number of 64 bits, as values.
+const LARGEST: &[u8] = b"\xff\xff\xff\xff\xff\xff\xff\x7f";
+
+const LEAST: &[u8] = b"\x00\x00\x00\x00\x00\x00\x00\x80";
+
 const OK_AND_VALUE: &[u8] = b"\x02\x00\x00\x00ok\x01\x00\x00\x00v";
 
 #[test]
@@ -191,10 +196,8 @@ fn each_packet_has_its_moment(rt: HostRuntime) -> Result<(), Fail> {
 
 #[test]
 fn numbers_end_at_their_type(rt: HostRuntime) -> Result<(), Fail> {
-    let largest = [255, 255, 255, 255, 255, 255, 255, 127];
-    let least = [0, 0, 0, 0, 0, 0, 0, 128];
     let rows: [(Command, &[u8]); 9] = [
-        (of(b"set", b"k", &largest), b"ok"),
+        (of(b"set", b"k", LARGEST), b"ok"),
         (of(b"inc", b"k", b""), b"range"),
         (of(b"num", b"k", b""), b"number 9223372036854775807"),
         (
@@ -206,7 +209,7 @@ fn numbers_end_at_their_type(rt: HostRuntime) -> Result<(), Fail> {
         ),
         (of(b"set", b"j", b"seven77"), b"ok"),
         (of(b"num", b"j", b""), b"not a number"),
-        (of(b"set", b"m", &least), b"ok"),
+        (of(b"set", b"m", LEAST), b"ok"),
         (
             Command {
                 amount: b"-1",
