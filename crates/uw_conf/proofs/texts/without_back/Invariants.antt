@@ -1,0 +1,7 @@
+use Rattle.std.proofs.Common.{◌≡◌, take, reverse}
+use Rattle.uw_conf.specs.Lines.{without_blanks}
+use Rattle.uw_conf.proofs.texts.without_back.Given as goal
+
+-- so far there were only blanks
+abbrev pub invariant-loop-place : goal.invariant-loop-place
+invariant-loop-place l = reverse (without_blanks (reverse (take l.place l.text))) ≡ reverse (without_blanks (reverse l.text))

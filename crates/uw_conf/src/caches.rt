@@ -1,0 +1,128 @@
+// The caches of a configuration.
+ghost use Rattle.std.specs.Prelude.{◌≡◌, length, IfOk};
+ghost use Rattle.std.specs.List.{list_any};
+ghost use Rattle.std.specs.Str.{bytes_eq};
+ghost use Rattle.uw_model.specs.declared.conf.CacheConf.{CacheConf};
+ghost use Rattle.uw_model.specs.Entries.{IsCacheConf};
+ghost use Rattle.uw_conf.specs.Answers.{Gives};
+ghost use Rattle.uw_conf.specs.Caches.{conf_of, added, completed, with_cache};
+ghost use Rattle.uw_conf.specs.Seen.{draft_seen};
+ghost use Rattle.uw_conf.specs.Sound.{AreCaches, IsDraft};
+
+use crate::draft::{CacheDraft, draft_of};
+use crate::refusal::Refusal;
+use crate::sizes::{region_bytes, region_words};
+use crate::texts::is;
+use crate::{CacheConfList, ConfKind};
+use std::alloc::Global;
+use uw_base::{Bytes, Memory};
+use uw_model::CacheConf;
+
+const MOST_CACHES: usize = 16;
+
+/// The most bytes of all regions.
+const MOST_REGION_BYTES: u64 = 1_073_741_824;
+
+/// The most chains where none are said.
+const DEFAULT_CHAINS: u64 = 65_536;
+
+// The configuration of a draft that has a name and a number of items.
+fn conf_of(
+    alloc: Global,
+    draft: &CacheDraft<'_>,
+    name: &[u8],
+    items: u64,
+) -> Result<CacheConf, Memory>
+    ensures { IfOk result (λ conf. conf ≡ conf_of (draft_seen draft.now) name.now items) }
+{
+    let blocks = if draft.bitmap {
+        draft.blocks.unwrap_or(items)
+    } else {
+        items
+    };
+    Ok(CacheConf {
+        name: Bytes::from_slice(alloc, name)?,
+        items,
+        blocksize: draft.blocksize,
+        blocks,
+        keysize: draft.keysize,
+        chains: draft.chains.unwrap_or(items.min(DEFAULT_CHAINS)),
+        bitmap: draft.bitmap,
+        purge_lru: draft.purge_lru,
+        sweep_on_full: draft.sweep_on_full,
+        clear_on_full: draft.clear_on_full,
+    })
+}
+
+// Whether a cache has the name.
+fn has_name(caches: &[CacheConf], name: &[u8]) -> bool
+    ensures { result ≡ list_any (λ (earlier : CacheConf). bytes_eq earlier.name name.now) caches.now }
+{
+    for earlier in caches {
+        if is(earlier.name.as_slice(), name) {
+            return true;
+        }
+    }
+    false
+}
+
+// A cache behind the earlier ones.
+fn added(caches: CacheConfList, conf: CacheConf) -> Result<CacheConfList, Refusal>
+    requires caches { AreCaches caches }
+    requires conf { IsCacheConf conf }
+    ensures { Gives result (added caches conf) }
+{
+    if has_name(caches.as_slice(), conf.name.as_slice()) {
+        return Err(Refusal::Refused(ConfKind::NameTwice));
+    }
+    let bytes = region_bytes(caches.as_slice()) + 8 * region_words(&conf);
+    if MOST_REGION_BYTES < bytes {
+        return Err(Refusal::Refused(ConfKind::TooLarge {
+            bytes,
+            limit: MOST_REGION_BYTES,
+        }));
+    }
+    let mut caches = caches;
+    caches.push(conf)?;
+    Ok(caches)
+}
+
+// The cache of a draft, behind the earlier ones.
+fn completed(
+    alloc: Global,
+    caches: CacheConfList,
+    draft: &CacheDraft<'_>,
+) -> Result<CacheConfList, Refusal>
+    requires caches { AreCaches caches }
+    requires draft { IsDraft (draft_seen draft.now) }
+    ensures { Gives result
+        (completed caches (draft_seen draft.now) (draft_seen draft.now).name (draft_seen draft.now).items) }
+{
+    let Some(name) = draft.name else {
+        return Err(Refusal::Refused(ConfKind::Missing));
+    };
+    let Some(items) = draft.items else {
+        return Err(Refusal::Refused(ConfKind::Missing));
+    };
+    let conf = conf_of(alloc, draft, name, items)?;
+    added(caches, conf)
+}
+
+/// The caches with that of a line behind them. All its pairs are looked at; the 17th cache is a bad value.
+pub fn with_cache(
+    alloc: Global,
+    caches: CacheConfList,
+    text: &[u8],
+) -> Result<CacheConfList, Refusal>
+    requires { AreCaches caches }
+    ensures { Gives result (with_cache caches text.now) }
+{
+    let draft = draft_of(text);
+    if draft.unknown {
+        return Err(Refusal::Refused(ConfKind::UnknownOption));
+    }
+    if draft.bad || MOST_CACHES <= caches.len() {
+        return Err(Refusal::Refused(ConfKind::BadValue));
+    }
+    completed(alloc, caches, &draft)
+}

@@ -1,0 +1,56 @@
+// What a configuration says, and why a line is refused.
+use crate::CacheConfList;
+use uw_base::Bytes;
+
+/// What a configuration says.
+#[derive(Drop)]
+pub struct Conf {
+    /// The largest block of a packet, in bytes, 1 to 65,535.
+    pub buffer_size: u32,
+    /// Workers, 1 to 64.
+    pub workers: u32,
+    /// Seconds after which a busy worker is doomed, 0 for never.
+    pub harakiri: u64,
+    /// Seconds between two sweeps, 1 to 3,600.
+    pub expire_freq: u64,
+    /// Spoolers, 1 to 16.
+    pub spoolers: u32,
+    /// Seconds between two rounds of a spooler, 1 to 3,600.
+    pub spool_freq: u64,
+    /// Where workers listen; no byte where nothing is said.
+    pub socket: Bytes,
+    /// The caches, at most 16.
+    pub caches: CacheConfList,
+}
+
+/// Why a line is refused.
+#[derive(Clone, Copy, Debug, PartialEq, Eq)]
+pub enum ConfKind {
+    /// The line is no text of UTF-8, stands before any section, or is no option.
+    BadLine,
+    /// The option, or a key of a cache, is unknown.
+    UnknownOption,
+    /// The value is not of its kind, or outside its limit.
+    BadValue,
+    /// A cache has no name, or no number of items.
+    Missing,
+    /// An earlier cache has the name.
+    NameTwice,
+    /// All regions so far take more bytes than the limit; or, of line 0, the text does.
+    TooLarge { bytes: u64, limit: u64 },
+}
+
+/// A refused line, counted from 1; line 0 stands for the whole text.
+#[derive(Clone, Copy, Debug, PartialEq, Eq)]
+pub struct ConfFault {
+    pub line: u32,
+    pub kind: ConfKind,
+}
+
+/// Why there is no configuration.
+#[derive(Clone, Copy, Debug, PartialEq, Eq)]
+pub enum ConfError {
+    Refused(ConfFault),
+    /// No memory was left.
+    Memory,
+}

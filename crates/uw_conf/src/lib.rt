@@ -1,0 +1,23 @@
+//! The configuration: what a text of options says, or its first refused line.
+#![tactic(auto)]
+
+mod cache_list;
+mod caches;
+pub mod conf;
+mod draft;
+pub mod laws;
+mod lines;
+mod options;
+mod reading;
+mod refusal;
+mod sizes;
+mod texts;
+mod values;
+
+pub use cache_list::CacheConfList;
+pub use conf::{Conf, ConfError, ConfFault, ConfKind};
+pub use reading::read_conf;
+pub use sizes::region_words;
+
+#[cfg(test)]
+mod tests;
