@@ -4,3 +4,4 @@ pub mod Streams
 pub mod InMemory
 pub mod Adapters
 pub mod Moments
+pub mod Lives

@@ -1,9 +1,10 @@
-//! The outside: sources, sinks and clocks as traits with counts of their faults, their forms in memory,
+//! The outside: sources, sinks, clocks and lives as traits with counts of their faults, their forms in memory,
 //! and the adapters over the real ones.
 #![tactic(auto)]
 
 pub mod clock;
 mod counts;
+pub mod life;
 pub mod real;
 pub mod sink;
 pub mod source;
@@ -11,6 +12,7 @@ pub mod source;
 mod tests;
 
 pub use clock::{Clock, FixedClock};
+pub use life::{Immortal, Life};
 pub use real::{Reading, SystemClock, Writing};
 pub use sink::{BytesOut, Put, Sink, put_all};
 pub use source::{BytesIn, Filled, Got, Source, fill};
