@@ -1,5 +1,5 @@
 -- What is read from a block is what it holds: laws of arrays, pairs and packets.
-use Rattle.std.proofs.Common.{◌⊎◌, ◌≡◌, ℕ, zero, suc, ◌+◌, ◌-◌, ◌%◌, ◌^◌, ◌<◌, ◌≤◌, Bool, true, false, leb, ltb, ◌&&◌, List, [], ◌∷◌, ◌++◌, length, take, drop, Option, Some, None, Result, Ok, Err, refl, sym, ap, subst, ◌∙◌, append_assoc, arith, inl, inr, length-append}
+use Rattle.std.proofs.Common.{◌⊎◌, ◌≡◌, ℕ, zero, suc, ◌+◌, ◌-◌, ◌%◌, ◌<◌, ◌≤◌, Bool, true, false, leb, ltb, ◌&&◌, List, [], ◌∷◌, ◌++◌, length, take, drop, Option, Some, None, Result, Ok, Err, refl, sym, ap, subst, ◌∙◌, append_assoc, arith, inl, inr, length-append}
 use Rattle.std.specs.Int.{byte_at}
 use Rattle.std.specs.List.{list_all}
 use Rattle.std.proofs.lemmas.Bool.{le-leb, leb-true, ltb-true}
@@ -278,15 +278,15 @@ size_same : (m n : ℕ) → m < 65536 → n < 65536 → byte_at 0 m ≡ byte_at 
 size_same m n a b low high = omega arith
 
 -- bytes begin with one packet at most
-pub packet_unique : (bytes : List ℕ) (a b : Header) (block other rest left : List ℕ) → a.size < 2 ^ 16 → b.size < 2 ^ 16 → IsPacket bytes a block rest → IsPacket bytes b other left → (a ≡ b) × (block ≡ other) × (rest ≡ left)
-packet_unique bytes a b block other rest left fits_a fits_b first second =
+pub packet_unique : (bytes : List ℕ) (a b : Header) (block other rest left : List ℕ) → IsPacket bytes a block rest → IsPacket bytes b other left → (a ≡ b) × (block ≡ other) × (rest ≡ left)
+packet_unique bytes a b block other rest left first second =
     let same : a.m1 ∷ byte_at 0 a.size ∷ byte_at 1 a.size ∷ a.m2 ∷ (block ++ rest) ≡ b.m1 ∷ byte_at 0 b.size ∷ byte_at 1 b.size ∷ b.m2 ∷ (other ++ left) = sym first.whole ∙ second.whole in
     let m1 : a.m1 ≡ b.m1 = cc in
     let low : byte_at 0 a.size ≡ byte_at 0 b.size = cc in
     let high : byte_at 1 a.size ≡ byte_at 1 b.size = cc in
     let m2 : a.m2 ≡ b.m2 = cc in
     let behind : block ++ rest ≡ other ++ left = cc in
-    let size : a.size ≡ b.size = size_same a.size b.size fits_a fits_b low high in
+    let size : a.size ≡ b.size = size_same a.size b.size first.fits second.fits low high in
     let count : length other ≡ length block = second.size ∙ sym size ∙ sym first.size in
     let block_same : block ≡ other = sym (take_at block rest (length block) refl) ∙ ap (take (length block)) behind ∙ take_at other left (length block) count in
     let rest_same : rest ≡ left = sym (drop_at block rest (length block) refl) ∙ ap (drop (length block)) behind ∙ drop_at other left (length block) count in

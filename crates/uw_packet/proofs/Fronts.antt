@@ -1,5 +1,5 @@
 -- What a call answers over a source that tells what it has is the packet at the front of the bytes.
-use Rattle.std.proofs.Common.{◌≡◌, ℕ, ◌^◌, ◌<◌, ◌≤◌, Bool, true, false, cond, leb, ltb, List, [], ◌∷◌, ◌++◌, length, take, drop, Option, Some, None, Result, Ok, Err, refl, sym, ap, subst, ◌∙◌, arith, inl, inr, length-append}
+use Rattle.std.proofs.Common.{◌≡◌, ℕ, ◌<◌, ◌≤◌, Bool, true, false, cond, leb, ltb, List, [], ◌∷◌, ◌++◌, length, take, drop, Option, Some, None, Result, Ok, Err, refl, sym, ap, subst, ◌∙◌, arith, inl, inr, length-append}
 use Rattle.std.specs.Int.{byte_at}
 use Rattle.std.proofs.lemmas.Bool.{le-leb, lt-leb, leb-true, lt-ltb, le-ltb, ltb-false}
 use Rattle.std.proofs.lemmas.List.{append-nil, length-take-le, take-append-drop, take_at, drop_at}
@@ -35,9 +35,9 @@ block_front-too_big : (limit : ℕ) (head : Header) (bytes : List ℕ) → limit
 block_front-too_big limit head bytes above = rw (lt-ltb limit head.size above) refl
 
 -- bytes that begin with a packet within the limit
-pub packet_front-packet : (limit : ℕ) (bytes : List ℕ) (head : Header) (block rest : List ℕ) → head.size < 2 ^ 16 → head.size ≤ limit → IsPacket bytes head block rest → packet_front limit bytes ≡ Ok (Some (record { head = head; block = block }, rest))
-packet_front-packet limit bytes head block rest fits within is =
-    ap (packet_front limit) is.whole ∙ packet_front-header limit head (block ++ rest) fits ∙ block_front-whole limit head block rest is.size within
+pub packet_front-packet : (limit : ℕ) (bytes : List ℕ) (head : Header) (block rest : List ℕ) → head.size ≤ limit → IsPacket bytes head block rest → packet_front limit bytes ≡ Ok (Some (record { head = head; block = block }, rest))
+packet_front-packet limit bytes head block rest within is =
+    ap (packet_front limit) is.whole ∙ packet_front-header limit head (block ++ rest) is.fits ∙ block_front-whole limit head block rest is.size within
 
 -- and what stands at the front is a packet within the limit
 pub record IsPacketWithin (limit : ℕ) (bytes : List ℕ) (packet : Packet) (rest : List ℕ) : Type 0 where
@@ -68,7 +68,7 @@ IsPacket-packet_front limit (m1 ∷ low ∷ high ∷ m2 ∷ bytes) packet rest a
     let c = chosen_found (ltb limit n) (leb n (length bytes)) (made, drop n bytes) (packet, rest) (faults.TooBig n limit) (faults.Truncated (length bytes) n) e in
     let size = byte_at-text_length low high all.1.0 all.1.1.0 in
     let parts : m1 ∷ low ∷ high ∷ m2 ∷ bytes ≡ m1 ∷ byte_at 0 n ∷ byte_at 1 n ∷ m2 ∷ (take n bytes ++ drop n bytes) = rw (size.0, size.1, take-append-drop n bytes) refl in
-    let is : IsPacketWithin limit (m1 ∷ low ∷ high ∷ m2 ∷ bytes) made (drop n bytes) = record { is_packet = record { size = length-take-le n bytes (leb-true _ _ c.1); whole = parts }; within = ltb-false _ _ c.0 } in
+    let is : IsPacketWithin limit (m1 ∷ low ∷ high ∷ m2 ∷ bytes) made (drop n bytes) = record { is_packet = record { fits = omega (arith, all.1.0, all.1.1.0); size = length-take-le n bytes (leb-true _ _ c.1); whole = parts }; within = ltb-false _ _ c.0 } in
     let same = subst (λ (p : Packet × List ℕ). IsPacketWithin limit (m1 ∷ low ∷ high ∷ m2 ∷ bytes) p.0 p.1) c.2 is in
     (same.is_packet, same.within)
 

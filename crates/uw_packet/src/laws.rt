@@ -1,5 +1,5 @@
 // Laws of packets and blocks, over the definitions alone: each is proved, and its function does nothing.
-ghost use Rattle.std.specs.Prelude.{◌≡◌, ◌<◌, ◌≤◌, ◌%◌, ◌^◌, ◌⊎◌, ℕ, List, Option, Some, Result, Ok, Err, length};
+ghost use Rattle.std.specs.Prelude.{◌≡◌, ◌<◌, ◌≤◌, ◌%◌, ◌⊎◌, ℕ, List, Option, Some, Result, Ok, Err, length};
 ghost use Rattle.uw_base.specs.declared.variables.Pair.{Pair};
 ghost use Rattle.uw_packet.specs.BlockReads.{AreBytes, vars_block};
 ghost use Rattle.uw_packet.specs.Blocks.{AreShort, BreaksAt, IsArrayBlock, IsVarsBlock, array_of, array_read, texts_of_pairs, vars_read};
@@ -53,7 +53,7 @@ pub fn written_block_is_read()
 
 /// Bytes begin with one packet at most.
 pub fn packet_is_unique()
-    ensures { (bytes : List ℕ) (head other : Header) (block body rest left : List ℕ) → head.size < 2 ^ 16 → other.size < 2 ^ 16 → IsPacket bytes head block rest → IsPacket bytes other body left → (head ≡ other) × (block ≡ body) × (rest ≡ left) }
+    ensures { (bytes : List ℕ) (head other : Header) (block body rest left : List ℕ) → IsPacket bytes head block rest → IsPacket bytes other body left → (head ≡ other) × (block ≡ body) × (rest ≡ left) }
 {}
 
 /// Over a source that tells what it has, a packet that is read, and every refusal but a failed read
@@ -65,5 +65,5 @@ pub fn answers_are_the_front()
 /// A packet stands at the front exactly where the bytes begin with a packet whose block is within the limit.
 pub fn front_is_a_packet()
     ensures is_packet { (limit : ℕ) (bytes : List ℕ) (packet : Packet) (rest : List ℕ) → AreBytes bytes → packet_front limit bytes ≡ Ok (Some (packet, rest)) → IsPacket bytes packet.head packet.block rest × (packet.head.size ≤ limit) }
-    ensures is_front { (limit : ℕ) (bytes : List ℕ) (head : Header) (block rest : List ℕ) → head.size < 2 ^ 16 → head.size ≤ limit → IsPacket bytes head block rest → packet_front limit bytes ≡ Ok (Some (record { head = head; block = block }, rest)) }
+    ensures is_front { (limit : ℕ) (bytes : List ℕ) (head : Header) (block rest : List ℕ) → head.size ≤ limit → IsPacket bytes head block rest → packet_front limit bytes ≡ Ok (Some (record { head = head; block = block }, rest)) }
 {}
