@@ -4,6 +4,8 @@ pub mod KeysLemmas
 pub mod StateLemmas
 pub mod PartLemmas
 pub mod RoomLemmas
+pub mod PlacedLemmas
 pub mod NextStateLemmas
 pub mod LawLemmas
 pub mod MathLemmas
+pub mod CachesLemmas

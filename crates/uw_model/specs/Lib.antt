@@ -6,3 +6,5 @@ pub mod Counted
 pub mod Keys
 pub mod ListState
 pub mod Laws
+pub mod Asks
+pub mod Caches

@@ -8,7 +8,7 @@ ghost use Rattle.uw_model.specs.Keys.{HaveOwnKeys, IsAlivePlace};
 
 use crate::keys::{move_to_front, place_of, put_back, put_in_front, take_out};
 use crate::numbers::{Reckoning, dies_of_number, is_zero_division, number_at, result_of};
-use crate::placement::{first_run, is_alive, keep_alive, make_room};
+use crate::placement::{is_alive, keep_alive, make_room};
 use crate::sizes::{dies_at, is_bad_key, is_too_long, span};
 use crate::{Answer, CacheConf, Call, Entry};
 use std::alloc::Global;
@@ -105,11 +105,11 @@ fn place(
 {
     let n = span(conf, entry.value.as_slice());
     let taken = take_out(entries, entry.key.as_slice());
-    if !make_room(conf, entries, moment, n) {
+    let Some(first) = make_room(conf, entries, moment, n) else {
         put_back(entries, taken);
         return Answer::Full;
-    }
-    entry.first = first_run(conf, entries, None, n).unwrap_or(0);
+    };
+    entry.first = first;
     put_in_front(entries, entry);
     answered
 }

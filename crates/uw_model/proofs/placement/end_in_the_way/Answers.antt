@@ -4,11 +4,11 @@ use Rattle.std.proofs.lemmas.List.{take_all}
 use Rattle.uw_model.proofs.CountedLemmas.{end_blocks, free_of}
 use Rattle.uw_model.proofs.placement.end_in_the_way.Goals as goal
 
-pub returns-then-is_in_the_way : goal.returns-then-is_in_the_way
-returns-then-is_in_the_way c =
+pub returns-in-Some : goal.returns-in-Some
+returns-in-Some c =
     let conf = c.args.conf.now in
-    let ends = c.end_of.ensures.end in
-    rw ends (end_blocks conf c.args.at c.args.n c.args.place c.args.entries.now c.loop-entry.entry-index c.entry-item.result c.loop-entry-test.true c.entry-item.is (sym c.is_in_the_way.ensures ∙ c.if-is_in_the_way.true) (rw ends at c.end_of.ensures.within))
+    let ends = c.in-Some.ensures.end in
+    rw ends (end_blocks conf c.args.at c.args.n c.args.place c.args.entries.now c.loop-entry.entry-index c.entry-item.result c.loop-entry-test.true c.entry-item.is (sym c.in-Some.ensures.stands) (rw ends at c.in-Some.ensures.blocks))
 
 pub returns : goal.returns
 returns c =

@@ -1,0 +1,44 @@
+-- What a desk is asked, how each ask ended, and what one call of a desk did (own rule).
+use Rattle.std.specs.Prelude.{ℕ, Bool, true, false, List, [], ◌∷◌, Option, None, Some, Result, Ok, Err}
+use Rattle.uw_outside.specs.Lives.{Spends}
+use Rattle.uw_model.specs.declared.asks.Ask.{Ask}
+use Rattle.uw_model.specs.declared.asks.AskAnswer.{AskAnswer}
+use Rattle.uw_model.specs.declared.desk.DeskFault.{DeskFault}
+use Rattle.uw_model.specs.declared.desk.DeskFault.TheVariants as faults
+
+-- how an ask ended: it was answered; or its worker died when the ask already counted, with an answer that nobody was told, or before it counted; or no memory was found for it
+pub data AskEnd : Type 0 where
+  answered : AskAnswer → AskEnd
+  died_whole : AskAnswer → AskEnd
+  died_absent : AskEnd
+  no_memory : AskEnd
+
+-- an ask, its moment and how it ended; for an ask of an area the moment counts for nothing
+pub record Asking : Type 0 where
+  pub moment : ℕ
+  pub ask : Ask
+  pub end : AskEnd
+
+-- the answer of an ask that counts; an ask that died before it counted, or found no memory, is absent and has none
+abbrev pub counted_answer : AskEnd → Option AskAnswer
+counted_answer (answered answer) = Some answer
+counted_answer (died_whole answer) = Some answer
+counted_answer died_absent = None
+counted_answer no_memory = None
+
+-- one ask led the desk on, by word writes that the life let through
+abbrev pub Leads : (List Asking → ℕ → Type 0) → Option (List ℕ) → Option (List ℕ) → ℕ → Ask → AskEnd → Type 0
+Leads led before now moment ask end = (writes : ℕ) × led (record { moment = moment; ask = ask; end = end } ∷ []) writes × Spends before now writes
+
+-- what a call of a desk did, by what it answered: `led` says which asks led the desk on, and how many word writes were made for them
+abbrev pub Calls : {T : Type 0} → (T → AskAnswer) → (List Asking → ℕ → Type 0) → Option (List ℕ) → Option (List ℕ) → ℕ → Ask → Result T DeskFault → Type 0
+Calls kind led before now moment ask (Ok answer) = Leads led before now moment ask (answered (kind answer))
+Calls kind led before now moment ask (Err (faults.Died true)) = (answer : AskAnswer) × Leads led before now moment ask (died_whole answer)
+Calls kind led before now moment ask (Err (faults.Died false)) = Leads led before now moment ask died_absent
+Calls kind led before now moment ask (Err faults.Memory) = Leads led before now moment ask no_memory
+
+-- the worker died in a call
+abbrev pub has_died : {T : Type 0} → Result T DeskFault → Bool
+has_died (Ok answer) = false
+has_died (Err (faults.Died whole)) = true
+has_died (Err faults.Memory) = false

@@ -1,0 +1,58 @@
+// The desk, through which a request asks the caches.
+ghost use Rattle.std.specs.Prelude.{◌≡◌, ◌+◌, ◌++◌, ◌<◌, Bool, true, false, not, List, [], ℕ};
+ghost use Rattle.uw_outside.specs.Faults.{HasCause};
+ghost use Rattle.uw_model.specs.declared.asks.Ask.TheVariants as asks;
+ghost use Rattle.uw_model.specs.declared.asks.AskAnswer.TheVariants as ask_answers;
+ghost use Rattle.uw_model.specs.Asks.{Asking, Calls, has_died};
+
+use crate::{Answer, Call};
+use std::alloc::Global;
+use uw_outside::Life;
+
+/// Why an ask was not answered.
+#[derive(Clone, Copy, Debug, PartialEq, Eq)]
+pub enum DeskFault {
+    /// The worker died. Its call is in the history of the cache where it is whole, and else nowhere.
+    Died { whole: bool },
+    /// No memory was left. The call is in no history.
+    Memory,
+}
+
+/// The caches of a site, numbered from 0, which a request asks one call after the other.
+pub trait Desk {
+    /// How many caches it has. No call changes that.
+    ghost caches: { Self → ℕ };
+
+    /// No cache has an update pending that a dead worker left.
+    ghost settled: { Self → Bool };
+
+    /// These asks, each ended as it says, led from the one state to the other, and so many word writes were made for
+    /// them, those of repairs among them.
+    ghost leads: { Self → Self → List Asking → ℕ → Type 0 };
+
+    /// Makes a call of the cache of a number, at a moment in seconds. Moments need not rise. Died only where the life
+    /// refused a word write. Where there is no memory, nothing is changed.
+    fn cache<L: Life>(
+        &mut self,
+        alloc: Global,
+        cache: u32,
+        moment: u64,
+        call: &Call,
+        life: &mut L,
+    ) -> Result<Answer, DeskFault>
+        requires known { cache < caches self.old }
+        requires alive { L.alive life.old ≡ true }
+        ensures asked { Calls (λ answer. ask_answers.Cache answer) (leads self.old self.new) (L.allowances life.old) (L.allowances life.new)
+            moment (asks.Cache cache call.now) result }
+        ensures cause { HasCause (L.deaths life.old) (L.deaths life.new) (has_died result) }
+        ensures alive { L.alive life.new ≡ not (has_died result) }
+        ensures caches { caches self.new ≡ caches self.old }
+        ensures settled { settled self.old ≡ true → has_died result ≡ false → settled self.new ≡ true };
+
+    /// No ask leads from a state to itself.
+    ghost leads_none: { (desk : Self) → leads desk desk [] 0 };
+
+    /// What led first, and then what led on from there.
+    ghost leads_more: { (a b c : Self) (early late : List Asking) (first more : ℕ)
+        → leads a b early first → leads b c late more → leads a c (early ++ late) (first + more) };
+}
