@@ -2,3 +2,4 @@ pub mod TextLemmas
 pub mod SizeLemmas
 pub mod SoundLemmas
 pub mod ReadingLemmas
+pub mod OptionLemmas

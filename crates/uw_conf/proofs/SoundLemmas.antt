@@ -34,7 +34,7 @@ within_some : (low high : ℕ) (o : Option ℕ) → IfSome (within low high o) (
 within_some low high None = tt
 within_some low high (Some n) = some_within low high n (nat_le low n && nat_le n high) refl
 
-number_in_some : (low high : ℕ) (text : List ℕ) → IfSome (number_in low high text) (λ m. (low ≤ m) × (m ≤ high))
+pub number_in_some : (low high : ℕ) (text : List ℕ) → IfSome (number_in low high text) (λ m. (low ≤ m) × (m ≤ high))
 number_in_some low high text = within_some low high (decimal_of text)
 
 -- another field of a draft changes nothing of its numbers

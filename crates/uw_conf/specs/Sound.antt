@@ -3,6 +3,7 @@ use Rattle.std.specs.Prelude.{◌≡◌, ◌%◌, ◌≤◌, List, length, IfSom
 use Rattle.std.specs.List.{AllByRecursion}
 use Rattle.uw_model.specs.declared.conf.CacheConf.{CacheConf}
 use Rattle.uw_model.specs.Entries.{IsCacheConf}
+use Rattle.uw_conf.specs.declared.conf.Conf.{Conf}
 use Rattle.uw_conf.specs.Caches.{Draft, region_bytes, most_region_bytes}
 
 -- the numbers of a draft
@@ -19,3 +20,12 @@ pub record AreCaches (caches : List CacheConf) : Type 0 where
   pub each : AllByRecursion IsCacheConf caches
   pub few : length caches ≤ 16
   pub small : region_bytes caches ≤ most_region_bytes
+
+-- each number of a configuration lies within its limits
+pub record HasLimits (conf : Conf) : Type 0 where
+  pub buffer_size : (1 ≤ conf.buffer_size) × (conf.buffer_size ≤ 65535)
+  pub workers : (1 ≤ conf.workers) × (conf.workers ≤ 64)
+  pub harakiri : conf.harakiri ≤ 86400
+  pub expire_freq : (1 ≤ conf.expire_freq) × (conf.expire_freq ≤ 3600)
+  pub spoolers : (1 ≤ conf.spoolers) × (conf.spoolers ≤ 16)
+  pub spool_freq : (1 ≤ conf.spool_freq) × (conf.spool_freq ≤ 3600)

@@ -9,14 +9,14 @@ ghost use Rattle.uw_conf.specs.Caches.{conf_of, added, completed, with_cache};
 ghost use Rattle.uw_conf.specs.Seen.{draft_seen};
 ghost use Rattle.uw_conf.specs.Sound.{AreCaches, IsDraft};
 
+use crate::ConfKind;
 use crate::draft::{CacheDraft, draft_of};
 use crate::refusal::Refusal;
 use crate::sizes::{region_bytes, region_words};
 use crate::texts::is;
-use crate::{CacheConfList, ConfKind};
 use std::alloc::Global;
 use uw_base::{Bytes, Memory};
-use uw_model::CacheConf;
+use uw_model::{CacheConf, CacheConfList};
 
 const MOST_CACHES: usize = 16;
 

@@ -1,6 +1,6 @@
 // What a configuration says, and why a line is refused.
-use crate::CacheConfList;
 use uw_base::Bytes;
+use uw_model::CacheConfList;
 
 /// What a configuration says.
 #[derive(Drop)]

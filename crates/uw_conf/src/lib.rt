@@ -1,7 +1,6 @@
 //! The configuration: what a text of options says, or its first refused line.
 #![tactic(auto)]
 
-mod cache_list;
 mod caches;
 pub mod conf;
 mod draft;
@@ -14,7 +13,6 @@ mod sizes;
 mod texts;
 mod values;
 
-pub use cache_list::CacheConfList;
 pub use conf::{Conf, ConfError, ConfFault, ConfKind};
 pub use reading::read_conf;
 pub use sizes::region_words;

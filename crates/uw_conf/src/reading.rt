@@ -1,5 +1,5 @@
 // A text, line by line.
-ghost use Rattle.std.specs.Prelude.{◌≡◌, ◌≤◌, ◌<◌, ◌^◌, length, None, Ok};
+ghost use Rattle.std.specs.Prelude.{◌≡◌, ◌≤◌, ◌<◌, ◌^◌, length, None, Ok, IfOk};
 ghost use Rattle.std.specs.Str.Lines.{lines};
 ghost use Rattle.uw_conf.specs.Answers.{Reads};
 ghost use Rattle.uw_conf.specs.Configuration.{blank_conf, conf_read, configuration_of, read_line, read_lines, with_line};
@@ -11,9 +11,10 @@ use crate::lines::{LineKind, is_utf8, line_of, next_line};
 use crate::options::with_option;
 use crate::refusal::Refusal;
 use crate::texts::{is, trim_blanks};
-use crate::{CacheConfList, Conf, ConfError, ConfFault, ConfKind};
+use crate::{Conf, ConfError, ConfFault, ConfKind};
 use std::alloc::Global;
 use uw_base::Bytes;
+use uw_model::CacheConfList;
 
 /// The most bytes of a text.
 const MOST_TEXT_BYTES: usize = 1_048_576;
@@ -82,7 +83,8 @@ fn read_line(alloc: Global, progress: Progress, line: &[u8]) -> Result<Progress,
 // The lines of a text, up to the first that is refused.
 fn read_lines(alloc: Global, text: &[u8]) -> Result<Conf, ConfError>
     requires { length text.now ≤ 1048576 }
-    ensures { Reads result (conf_read (read_lines (Ok (record { inside = None; conf = blank_conf })) 1 (lines text.now))) }
+    ensures says { Reads result (conf_read (read_lines (Ok (record { inside = None; conf = blank_conf })) 1 (lines text.now))) }
+    ensures sound { IfOk result (λ conf. AreCaches conf.caches) }
 {
     let mut progress = Progress {
         inside: None,
@@ -108,7 +110,8 @@ fn read_lines(alloc: Global, text: &[u8]) -> Result<Conf, ConfError>
 /// A text that is too large is refused as a whole.
 pub fn read_conf(alloc: Global, text: &[u8]) -> Result<Conf, ConfError>
     requires { length text.now < 2 ^ 32 }
-    ensures { Reads result (configuration_of text.now) }
+    ensures says { Reads result (configuration_of text.now) }
+    ensures sound { IfOk result (λ conf. AreCaches conf.caches) }
 {
     if MOST_TEXT_BYTES < text.len() {
         return Err(ConfError::Refused(ConfFault {

@@ -1,6 +1,7 @@
 use Rattle.std.proofs.Common.{sym, ◌∙◌, arith}
 use Rattle.std.specs.Str.Lines.{lines}
 use Rattle.uw_conf.specs.Progress.{progress_seen}
+use Rattle.uw_conf.proofs.OptionLemmas.{HasCaches, caches_kept}
 use Rattle.uw_conf.proofs.ReadingLemmas.{lines_step, taken_keeps}
 use Rattle.uw_conf.proofs.reading.read_lines.Goals as goal
 
@@ -11,5 +12,5 @@ lines-preserved c = record {
       c.in-Some.ensures.line c.in-Ok.ensures)
       ∙ c.lines.invariant.same;
   within = omega (arith, c.in-Some.ensures.shorter);
-  caches = taken_keeps (progress_seen c.lines.progress) (progress_seen c.in-Ok.progress) c.in-Some.line.now c.lines.invariant.caches c.in-Ok.ensures;
+  caches = taken_keeps HasCaches caches_kept (progress_seen c.lines.progress) (progress_seen c.in-Ok.progress) c.in-Some.line.now c.lines.invariant.caches c.in-Ok.ensures;
 }
