@@ -1,6 +1,7 @@
 -- A command as the code answers it.
-use Rattle.std.specs.Prelude.{◌≡◌, Result, Ok, Err}
+use Rattle.std.specs.Prelude.{◌≡◌, ℕ, ◌<◌, Result, Ok, Err}
 use Rattle.uw_model.specs.declared.asks.Ask.{Ask}
+use Rattle.uw_model.specs.declared.asks.Ask.TheVariants as asks
 use Rattle.uw_cachecmd.specs.declared.commands.CmdFault.{CmdFault}
 use Rattle.uw_cachecmd.specs.declared.commands.CmdFault.TheVariants as faults
 
@@ -12,3 +13,8 @@ Answers (Err faults.UnknownCommand) defined = defined ≡ Err faults.UnknownComm
 Answers (Err faults.UnknownCache) defined = defined ≡ Err faults.UnknownCache
 Answers (Err faults.BadNumber) defined = defined ≡ Err faults.BadNumber
 Answers (Ok ask) defined = defined ≡ Ok ask
+
+-- an ask is of one of so many caches
+abbrev pub AsksOneOf : ℕ → Result Ask CmdFault → Type 0
+AsksOneOf count (Ok (asks.Cache cache call)) = cache < count
+AsksOneOf count (Err fault) = Unit {0}

@@ -1,10 +1,10 @@
 // A block as a command.
-ghost use Rattle.std.specs.Prelude.{◌≡◌, ◌<◌, ◌^◌, ℕ, [], List, length, slice_index_or, take, Option, IfOk};
+ghost use Rattle.std.specs.Prelude.{◌≡◌, ◌<◌, ◌^◌, ℕ, [], List, length, slice_index_or, take, Option, IfOk, IfSome};
 ghost use Rattle.std.specs.List.{position_from};
 ghost use Rattle.std.specs.Str.{bytes_eq};
 ghost use Rattle.uw_model.specs.declared.calls.Call.TheVariants as calls;
 ghost use Rattle.uw_packet.specs.Blocks.{array_of, array_read, vars_read};
-ghost use Rattle.uw_cachecmd.specs.Answers.{Answers};
+ghost use Rattle.uw_cachecmd.specs.Answers.{Answers, AsksOneOf};
 ghost use Rattle.uw_cachecmd.specs.Commands.{IsCacheModifier, amount_of, ask_of, asked, cache_of, call_of, command_of, kind_of, seconds_of, set_of};
 
 use std::alloc::Global;
@@ -59,7 +59,8 @@ pub fn command(alloc: Global, m2: u8, block: &[u8], names: &BytesList) -> Result
     requires built { IsCacheModifier m2 }
     requires short { length block.now < 2 ^ 32 }
     requires few { length names.now < 2 ^ 32 }
-    ensures { Answers result (ask_of m2 block.now names.now) }
+    ensures ask { Answers result (ask_of m2 block.now names.now) }
+    ensures known { AsksOneOf (length names.now) result }
 {
     let names = names.as_slice();
     match m2 {
@@ -72,7 +73,8 @@ pub fn command(alloc: Global, m2: u8, block: &[u8], names: &BytesList) -> Result
 
 fn get(alloc: Global, block: &[u8], names: &[Bytes]) -> Result<Ask, CmdFault>
     requires { length names.now < 2 ^ 32 }
-    ensures { Answers result (asked (cache_of names.now []) (calls.Get block.now)) }
+    ensures ask { Answers result (asked (cache_of names.now []) (calls.Get block.now)) }
+    ensures known { AsksOneOf (length names.now) result }
 {
     let Some(cache) = cache_named(names, &[]) else {
         return Err(CmdFault::UnknownCache);
@@ -86,7 +88,8 @@ fn get(alloc: Global, block: &[u8], names: &[Bytes]) -> Result<Ask, CmdFault>
 
 fn del(alloc: Global, block: &[u8], names: &[Bytes]) -> Result<Ask, CmdFault>
     requires { length names.now < 2 ^ 32 }
-    ensures { Answers result (asked (cache_of names.now []) (calls.Del block.now)) }
+    ensures ask { Answers result (asked (cache_of names.now []) (calls.Del block.now)) }
+    ensures known { AsksOneOf (length names.now) result }
 {
     let Some(cache) = cache_named(names, &[]) else {
         return Err(CmdFault::UnknownCache);
@@ -102,7 +105,8 @@ fn del(alloc: Global, block: &[u8], names: &[Bytes]) -> Result<Ask, CmdFault>
 fn set(alloc: Global, block: &[u8], names: &[Bytes]) -> Result<Ask, CmdFault>
     requires short { length block.now < 2 ^ 32 }
     requires few { length names.now < 2 ^ 32 }
-    ensures { Answers result (set_of names.now block.now (array_read block.now)) }
+    ensures ask { Answers result (set_of names.now block.now (array_read block.now)) }
+    ensures known { AsksOneOf (length names.now) result }
 {
     let texts = match read_array(alloc, block) {
         Ok(texts) => texts.into_vec(),
@@ -159,7 +163,8 @@ fn array_len(texts: &[Bytes]) -> u32
 // The number of the cache of a name.
 fn cache_named(names: &[Bytes], name: &[u8]) -> Option<u32>
     requires { length names.now < 2 ^ 32 }
-    ensures { result ≡ cache_of names.now name.now }
+    ensures place { result ≡ cache_of names.now name.now }
+    ensures known { IfSome result (λ place. place < length names.now) }
 {
     if name.is_empty() {
         if names.is_empty() { None } else { Some(0) }
@@ -171,7 +176,8 @@ fn cache_named(names: &[Bytes], name: &[u8]) -> Option<u32>
 // The place of a name among names.
 fn place_of(names: &[Bytes], name: &[u8]) -> Option<u32>
     requires { length names.now < 2 ^ 32 }
-    ensures { result ≡ position_from (λ other. bytes_eq other name.now) 0 names.now }
+    ensures place { result ≡ position_from (λ other. bytes_eq other name.now) 0 names.now }
+    ensures known { IfSome result (λ place. place < length names.now) }
 {
     for (place, other) in names.iter().enumerate() {
         if other.as_slice() == name {
@@ -196,7 +202,8 @@ fn seconds(text: &[u8]) -> Option<u64>
 fn command_block(alloc: Global, block: &[u8], names: &[Bytes]) -> Result<Ask, CmdFault>
     requires short { length block.now < 2 ^ 32 }
     requires few { length names.now < 2 ^ 32 }
-    ensures { Answers result (command_of names.now (vars_read block.now)) }
+    ensures ask { Answers result (command_of names.now (vars_read block.now)) }
+    ensures known { AsksOneOf (length names.now) result }
 {
     match read_vars(alloc, block) {
         Ok(vars) => commanded(alloc, &vars, names),
@@ -208,7 +215,8 @@ fn command_block(alloc: Global, block: &[u8], names: &[Bytes]) -> Result<Ask, Cm
 // What the variables of a command block ask. Other variables are passed over.
 fn commanded(alloc: Global, vars: &Vars, names: &[Bytes]) -> Result<Ask, CmdFault>
     requires { length names.now < 2 ^ 32 }
-    ensures { Answers result (command_of names.now (Ok vars.now)) }
+    ensures ask { Answers result (command_of names.now (Ok vars.now)) }
+    ensures known { AsksOneOf (length names.now) result }
 {
     let Some(kind) = kind_named(vars.get(b"cmd")) else {
         return Err(CmdFault::UnknownCommand);
