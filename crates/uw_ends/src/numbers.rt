@@ -1,5 +1,5 @@
 // Numbers as words of the command line.
-ghost use Rattle.std.specs.Prelude.{◌≡◌, ◌==◌, IfOk, map};
+ghost use Rattle.std.specs.Prelude.{◌≡◌, ◌≤◌, ◌==◌, IfOk, IfSome, map};
 ghost use Rattle.std.specs.List.{slice_split};
 ghost use Rattle.uw_ends.specs.Answers.{Answers};
 ghost use Rattle.uw_ends.specs.Numbers.{all_read, deaths_of, number_of, number_within};
@@ -26,7 +26,8 @@ fn number(text: &[u8]) -> Option<u64>
 
 // The same, from `low` to `high`.
 pub(crate) fn number_from(low: u64, high: u64, text: &[u8]) -> Option<u64>
-    ensures { result ≡ number_within low high text.now }
+    ensures number { result ≡ number_within low high text.now }
+    ensures within { IfSome result (λ n. n ≤ high) }
 {
     let found = number(text)?;
     if low <= found && found <= high {

@@ -1,7 +1,8 @@
-// Lists of words, and the commands that they say.
-use crate::{Command, WordsFault, read_words};
+// Lists of words with the commands that they say, and faults with their statuses and texts.
+use crate::{BadPacket, BriefList, Command, RunEnd, RunFault, WordsFault, fault_text, read_words};
 use std::alloc::{AllocError, Global};
 use std::test::Fail;
+use uw_conf::{ConfFault, ConfKind};
 
 #[derive(Clone, Copy)]
 enum Wanted {
@@ -102,5 +103,88 @@ fn pipe_takes_up_to_64_deaths(rt: HostRuntime) -> Result<(), Fail> {
     assert!(rt; is_as_wanted(&most, Wanted::Pipe(&[7; 64])));
     let more = read_words(rt.alloc(), sevens(rt.alloc(), 65)?.as_slice());
     assert!(rt; is_as_wanted(&more, Wanted::Usage));
+    Ok(())
+}
+
+fn conf(line: u32, kind: ConfKind) -> RunFault {
+    RunFault::Conf(ConfFault { line, kind })
+}
+
+const TOO_LARGE: ConfKind = ConfKind::TooLarge {
+    bytes: 1_361_014_048,
+    limit: 1_073_741_824,
+};
+
+#[test]
+fn each_fault_has_its_status_and_text(rt: HostRuntime) -> Result<(), Fail> {
+    let rows = [
+        (
+            RunFault::Usage,
+            1,
+            "usage: uwsgi_server FILE SPOOL pipe, spool, steps, load or serve",
+        ),
+        (conf(1, ConfKind::BadLine), 2, "conf line 1: BadLine"),
+        (
+            conf(20, ConfKind::UnknownOption),
+            2,
+            "conf line 20: UnknownOption",
+        ),
+        (conf(3, ConfKind::BadValue), 2, "conf line 3: BadValue"),
+        (conf(0, ConfKind::Missing), 2, "conf line 0: Missing"),
+        (
+            conf(u32::MAX, ConfKind::NameTwice),
+            2,
+            "conf line 4294967295: NameTwice",
+        ),
+        (conf(2, TOO_LARGE), 2, "conf line 2: TooLarge"),
+        (RunFault::ReadFault, 3, "read failed"),
+        (RunFault::WriteFault, 4, "write failed"),
+        (
+            RunFault::Truncated { got: 3, want: 5 },
+            5,
+            "truncated: got 3, want 5",
+        ),
+        (
+            RunFault::BadPacket(BadPacket::TooBig {
+                size: 4097,
+                limit: 4096,
+            }),
+            6,
+            "packet too big: 4097 above 4096",
+        ),
+        (
+            RunFault::BadPacket(BadPacket::NoModifier { m1: 111, m2: 3 }),
+            6,
+            "no modifier: 111, 3",
+        ),
+        (
+            RunFault::BadPacket(BadPacket::BadBlock { at: 65_532 }),
+            6,
+            "bad block at 65532",
+        ),
+        (
+            RunFault::BadPacket(BadPacket::BadLength),
+            6,
+            "bad content length",
+        ),
+        (
+            RunFault::BadPacket(BadPacket::BadEvent { line: u64::MAX }),
+            6,
+            "bad event in line 18446744073709551615",
+        ),
+        (RunFault::KeeperFault, 7, "spool failed"),
+        (RunFault::Memory, 8, "out of memory"),
+        (RunFault::TooMany, 9, "too many"),
+        (RunFault::NotStarted, 10, "not started"),
+        (RunFault::NoSocket, 11, "no socket"),
+        (RunFault::NotBound, 15, "not bound"),
+    ];
+    for (fault, status, text) in rows {
+        let found = fault_text(rt.alloc(), &fault)?;
+        assert_eq!(rt; found.as_slice(), text.as_bytes());
+        let end = RunEnd::new(Some(fault), BriefList::new(rt.alloc()));
+        assert_eq!(rt; end.status, status, "{text}");
+    }
+    assert_eq!(rt; RunEnd::new(None, BriefList::new(rt.alloc())).status, 0);
     Ok(())
 }

@@ -1,8 +1,8 @@
 // The words of the command line.
-ghost use Rattle.std.specs.Prelude.{◌≡◌, map, option_and_then};
+ghost use Rattle.std.specs.Prelude.{◌≡◌, ◌≤◌, map, option_and_then, IfOk, IfSome};
 ghost use Rattle.std.specs.String.{string_bytes};
 ghost use Rattle.clap.specs.Words.{first_of, found_of, rows_of};
-ghost use Rattle.uw_ends.specs.Answers.{Answers};
+ghost use Rattle.uw_ends.specs.Answers.{Answers, IsWithin};
 ghost use Rattle.uw_ends.specs.Numbers.{number_within};
 ghost use Rattle.uw_ends.specs.Words.{command_named, command_of, load_of, pipe_of, plain_of};
 
@@ -67,7 +67,8 @@ impl From<AllocError> for WordsFault {
 /// numbers joined by commas, each from 1 to 1,000,000,000; `load` has a first number below 2^31 and a count of at most 1,000,000; `spool`, `steps`
 /// and `serve` stand alone. A number is decimal digits without a sign or a leading zero. Usage comes exactly where the words say no command.
 pub fn read_words(alloc: Global, words: &[String]) -> Result<Command, WordsFault>
-    ensures { Answers result (command_of (map string_bytes words.now)) }
+    ensures command { Answers result (command_of (map string_bytes words.now)) }
+    ensures within { IfOk result IsWithin }
 {
     match words {
         [] => Err(WordsFault::Usage),
@@ -77,7 +78,8 @@ pub fn read_words(alloc: Global, words: &[String]) -> Result<Command, WordsFault
 
 // The command of a first word, on the words after it.
 fn read_named(alloc: Global, name: &[u8], words: &[String]) -> Result<Command, WordsFault>
-    ensures { Answers result (command_named name.now (map string_bytes words.now)) }
+    ensures command { Answers result (command_named name.now (map string_bytes words.now)) }
+    ensures within { IfOk result IsWithin }
 {
     if name == b"pipe".as_slice() {
         read_pipe(alloc, words)
@@ -101,14 +103,17 @@ fn read_plain(
     command: Command,
     words: &[String],
 ) -> Result<Command, WordsFault>
-    ensures { Answers result (plain_of name.now command (map string_bytes words.now)) }
+    requires { IsWithin command }
+    ensures command { Answers result (plain_of name.now command (map string_bytes words.now)) }
+    ensures within { IfOk result IsWithin }
 {
     parse(plain_command(alloc, name), words)?;
     Ok(command)
 }
 
 fn read_pipe(alloc: Global, words: &[String]) -> Result<Command, WordsFault>
-    ensures { Answers result (pipe_of (map string_bytes words.now)) }
+    ensures command { Answers result (pipe_of (map string_bytes words.now)) }
+    ensures within { IfOk result IsWithin }
 {
     let matches = parse(pipe_command(alloc)?, words)?;
     match value(&matches, "die") {
@@ -122,7 +127,8 @@ fn read_pipe(alloc: Global, words: &[String]) -> Result<Command, WordsFault>
 }
 
 fn read_load(alloc: Global, words: &[String]) -> Result<Command, WordsFault>
-    ensures { Answers result (load_of (map string_bytes words.now)) }
+    ensures command { Answers result (load_of (map string_bytes words.now)) }
+    ensures within { IfOk result IsWithin }
 {
     let matches = parse(load_command(alloc)?, words)?;
     let first = number_given(&matches, "first", LAST_FIRST);
@@ -135,7 +141,8 @@ fn read_load(alloc: Global, words: &[String]) -> Result<Command, WordsFault>
 
 // The number that clap found for an argument, at most `high`.
 fn number_given(matches: &ArgMatches<'_>, name: &str, high: u64) -> Option<u64>
-    ensures { result ≡ option_and_then (number_within 0 high) (first_of name.now (rows_of (found_of matches.now))) }
+    ensures number { result ≡ option_and_then (number_within 0 high) (first_of name.now (rows_of (found_of matches.now))) }
+    ensures within { IfSome result (λ n. n ≤ high) }
 {
     number_from(0, high, value(matches, name)?.as_bytes())
 }

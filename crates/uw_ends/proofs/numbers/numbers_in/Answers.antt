@@ -7,10 +7,10 @@ use Rattle.uw_ends.proofs.numbers.numbers_in.Goals as goal
 pub returns-in_default : goal.returns-in_default
 returns-in_default c =
     read_fails (number_within 1 LAST_WRITE) _ c.loop-part.numbers c.args.parts.now c.loop-part.part-index c.as_bytes.result.now _ (omega arith) c.as_bytes.ensures.value
-    (sym c.number_from.ensures ∙ c.in_default.is) c.loop-part.invariant
+    (sym c.number_from.ensures.number ∙ c.in_default.is) c.loop-part.invariant
 
 pub loop-part-preserved : goal.loop-part-preserved
 loop-part-preserved c =
     let grown : c.push.new.self ≡ c.loop-part.numbers ++ c.in-Some.number ∷ [] = c.in_ok-push.ensures.ok in
     read_more (number_within 1 LAST_WRITE) _ c.loop-part.numbers _ c.args.parts.now c.loop-part.part-index c.in-Some.number c.as_bytes.result.now _ (omega arith) c.as_bytes.ensures.value
-    (sym c.number_from.ensures ∙ c.in-Some.is) grown c.loop-part.invariant
+    (sym c.number_from.ensures.number ∙ c.in-Some.is) grown c.loop-part.invariant
