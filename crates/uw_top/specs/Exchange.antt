@@ -1,38 +1,20 @@
 -- One packet and its reply.
-use Rattle.std.specs.Prelude.{◌≡◌, ℕ, ◌==◌, nat_lt, Bool, ◌&&◌, ◌||◌, if◌then◌else◌, List, [], ◌∷◌, ◌++◌, length, codes, false, true, Option, None, Some, Result, Ok, Err}
+use Rattle.std.specs.Prelude.{◌≡◌, ℕ, ◌==◌, nat_lt, Bool, ◌&&◌, ◌||◌, if◌then◌else◌, List, ◌++◌, length, map, Option, None, Some, Result, Ok, Err}
 use Rattle.std.specs.Int.{to_le_bytes, w32}
 use Rattle.uw_packet.specs.declared.packet.Header.{Header}
 use Rattle.uw_packet.specs.Packet.{header_bytes}
-use Rattle.uw_model.specs.declared.conf.CacheConf.{CacheConf}
-use Rattle.uw_model.specs.declared.entries.Entry.{Entry}
+use Rattle.uw_model.specs.declared.calls.Answer.{Answer}
 use Rattle.uw_model.specs.declared.asks.Ask.{Ask}
 use Rattle.uw_model.specs.declared.asks.Ask.TheVariants as asks
-use Rattle.uw_model.specs.Calls.{answer, next_state}
+use Rattle.uw_model.specs.ListState.{ListState}
+use Rattle.uw_model.specs.Caches.{answer_in, caches_after}
+use Rattle.uw_conf.specs.declared.conf.Conf.{Conf}
 use Rattle.uw_cachecmd.specs.declared.commands.CmdFault.{CmdFault}
 use Rattle.uw_cachecmd.specs.declared.commands.CmdFault.TheVariants as commands
 use Rattle.uw_cachecmd.specs.Commands.{ask_of}
 use Rattle.uw_cachecmd.specs.Replies.{reply_text, fault_text}
-use Rattle.uw_top.specs.declared.ends.BadPacket.{BadPacket}
-use Rattle.uw_top.specs.declared.ends.BadPacket.TheVariants as bad
-
--- the one cache, until configurations are read
-abbrev pub fixed_cache : CacheConf
-fixed_cache = record {
-  name = codes "c";
-  items = 4;
-  blocksize = 64;
-  blocks = 4;
-  keysize = 2048;
-  chains = 4;
-  bitmap = false;
-  purge_lru = false;
-  sweep_on_full = false;
-  clear_on_full = false;
-}
-
--- the largest block, in bytes
-abbrev pub buffer_size : ℕ
-buffer_size = 4096
+use Rattle.uw_ends.specs.declared.ends.BadPacket.{BadPacket}
+use Rattle.uw_ends.specs.declared.ends.BadPacket.TheVariants as bad
 
 -- a packet at its moment
 pub record Exchange : Type 0 where
@@ -49,9 +31,9 @@ abbrev pub is_served : ℕ → ℕ → Bool
 is_served m1 m2 = m1 == 111 && (m2 == 0 || m2 == 1 || m2 == 2 || m2 == 200)
 
 -- why a header is refused, before its block is read: its size, and then its modifiers
-abbrev pub refusal_of : Header → Option BadPacket
-refusal_of head =
-    if nat_lt buffer_size head.size then Some (bad.TooBig head.size buffer_size)
+abbrev pub refusal_of : Conf → Header → Option BadPacket
+refusal_of conf head =
+    if nat_lt conf.buffer_size head.size then Some (bad.TooBig head.size conf.buffer_size)
     else (if is_served head.m1 head.m2 then None else Some (bad.NoModifier head.m1 head.m2))
 
 -- the place at which a block is out of its grammar
@@ -63,35 +45,43 @@ broken_at (Err commands.UnknownCache) = None
 broken_at (Err commands.BadNumber) = None
 broken_at (Err commands.Memory) = None
 
--- what a packet asks of the cache
-abbrev pub asked_by : CacheConf → Header → List ℕ → Result Ask CmdFault
-asked_by conf head block = ask_of head.m2 block (conf.name ∷ [])
+-- the names of the caches, in their order
+abbrev pub names_of : Conf → List (List ℕ)
+names_of conf = map (λ c. c.name) conf.caches
 
--- a reply, and the list that the cache then holds
+-- what a packet asks of the caches
+abbrev pub asked_by : Conf → Header → List ℕ → Result Ask CmdFault
+asked_by conf head block = ask_of head.m2 block (names_of conf)
+
+-- a reply, the answer of the cache behind it where one was asked, and the caches after it
 pub record Reply : Type 0 where
   pub text : List ℕ
-  pub list : List Entry
+  pub answer : Option Answer
+  pub caches : List ListState
 
 -- the reply to an ask, or to a refused command
-abbrev pub replied : CacheConf → List Entry → ℕ → ℕ → Result Ask CmdFault → Reply
-replied conf list now m2 (Ok (asks.Cache cache call)) =
-    record { text = reply_text m2 (answer conf list now call); list = next_state conf list now call }
-replied conf list now m2 (Err fault) = record { text = fault_text m2 fault; list = list }
+abbrev pub replied : List ListState → ℕ → ℕ → Result Ask CmdFault → Reply
+replied caches now m2 (Ok (asks.Cache cache call)) = record {
+  text = reply_text m2 (answer_in caches cache now call);
+  answer = Some (answer_in caches cache now call);
+  caches = caches_after caches cache now call;
+}
+replied caches now m2 (Err fault) = record { text = fault_text m2 fault; answer = None; caches = caches }
 
 -- the reply to a packet
-abbrev pub reply_of : CacheConf → List Entry → Exchange → Reply
-reply_of conf list x = replied conf list x.moment x.head.m2 (asked_by conf x.head x.block)
+abbrev pub reply_of : Conf → List ListState → Exchange → Reply
+reply_of conf caches x = replied caches x.moment x.head.m2 (asked_by conf x.head x.block)
 
 -- a reply behind its length in four bytes, the lowest first
 abbrev pub frame : List ℕ → List ℕ
 frame reply = to_le_bytes w32 (length reply) ++ reply
 
 -- the frame of a packet
-abbrev pub frame_of : CacheConf → List Entry → Exchange → List ℕ
-frame_of conf list x = frame (reply_of conf list x).text
+abbrev pub frame_of : Conf → List ListState → Exchange → List ℕ
+frame_of conf caches x = frame (reply_of conf caches x).text
 
 -- a packet that is answered: its header is not refused, its block has just its size and is in its grammar
-pub record IsAnswered (conf : CacheConf) (x : Exchange) : Type 0 where
-  pub accepted : refusal_of x.head ≡ None
+pub record IsAnswered (conf : Conf) (x : Exchange) : Type 0 where
+  pub accepted : refusal_of conf x.head ≡ None
   pub size : length x.block ≡ x.head.size
   pub grammar : broken_at (asked_by conf x.head x.block) ≡ None

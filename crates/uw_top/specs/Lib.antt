@@ -1,5 +1,8 @@
-pub mod Ends
+pub mod Outputs
 pub mod Exchange
 pub mod Pipe
+pub mod Load
 pub mod Run
 pub mod Turns
+pub mod Loading
+pub mod Server

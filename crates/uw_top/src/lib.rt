@@ -1,12 +1,15 @@
-//! The top call: what the program does with its words, its input, its output and its clock.
+//! The top call: what the program does with its words, its configuration, its input, its output and its clock.
 #![tactic(auto)]
 
-pub mod ends;
+mod configuration;
+pub mod laws;
+mod load;
 mod pipe;
 mod runs;
+mod server;
 
-pub use ends::{BadPacket, Brief, BriefList, RunEnd, RunFault, fault_text};
 pub use runs::run;
+pub use uw_ends::{BadPacket, Brief, BriefList, RunEnd, RunFault, fault_text};
 
 #[cfg(test)]
 mod tests;

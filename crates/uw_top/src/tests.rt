@@ -4,13 +4,18 @@ use std::alloc::{AllocError, Global};
 use std::test::Fail;
 use uw_outside::{BytesIn, BytesOut, FixedClock};
 
-// A packet of modifier1 111.
-fn packet(alloc: Global, m2: u8, block: &[u8]) -> Result<Vec<u8>, AllocError> {
-    let mut bytes = Vec::new(alloc);
-    let size = (block.len() % 65536) as u16;
-    bytes.extend_from_slice(&[111, (size % 256) as u8, (size / 256) as u8, m2])?;
-    bytes.extend_from_slice(block)?;
-    Ok(bytes)
+// A run: its words, its configuration and input, the reads and writes that fail, and what comes of it.
+#[derive(Clone, Copy)]
+struct Case {
+    words: &'static [&'static str],
+    conf: &'static [u8],
+    input: &'static [u8],
+    conf_fails: &'static [u64],
+    read_fails: &'static [u64],
+    write_fails: &'static [u64],
+    output: &'static [u8],
+    status: u8,
+    text: &'static [u8],
 }
 
 // What a run wrote, and how it ended.
@@ -21,27 +26,28 @@ struct Report {
     text: Vec<u8>,
 }
 
-// A run of these words over this input.
-fn ran(
-    alloc: Global,
-    words: &[&str],
-    input: &[u8],
-    moments: &[u64],
-    read_fails: &[u64],
-    write_fails: &[u64],
-) -> Result<Report, AllocError> {
-    let mut given = Vec::new(alloc);
-    for word in words {
-        given.push(String::from_str(alloc, word)?)?;
+// A run of a case over an input, at these moments.
+fn ran(alloc: Global, case: &Case, input: &[u8], moments: &[u64]) -> Result<Report, AllocError> {
+    let mut words = Vec::new(alloc);
+    for word in case.words {
+        words.push(String::from_str(alloc, word)?)?;
     }
     let mut asked = moments.to_vec(alloc)?;
     if asked.is_empty() {
         asked.push(10)?;
     }
-    let mut src = BytesIn::new(input.to_vec(alloc)?, read_fails.to_vec(alloc)?);
-    let mut snk = BytesOut::new(Vec::new(alloc), write_fails.to_vec(alloc)?);
+    let mut conf = BytesIn::new(case.conf.to_vec(alloc)?, case.conf_fails.to_vec(alloc)?);
+    let mut src = BytesIn::new(input.to_vec(alloc)?, case.read_fails.to_vec(alloc)?);
+    let mut snk = BytesOut::new(Vec::new(alloc), case.write_fails.to_vec(alloc)?);
     let mut clock = FixedClock::new(asked);
-    let end = run(alloc, given.as_slice(), &mut src, &mut snk, &mut clock);
+    let end = run(
+        alloc,
+        words.as_slice(),
+        &mut conf,
+        &mut src,
+        &mut snk,
+        &mut clock,
+    );
     let text = match &end.fault {
         Some(fault) => match fault_text(alloc, fault) {
             Ok(text) => text.into_vec(),
@@ -56,111 +62,612 @@ fn ran(
     })
 }
 
-// A command: its variables, of which the empty ones are left out.
-#[derive(Clone, Copy)]
-struct Command<'a> {
-    cmd: &'a [u8],
-    key: &'a [u8],
-    value: &'a [u8],
-    expires: &'a [u8],
-    amount: &'a [u8],
-}
-
-// A command of a key with a value.
-fn of<'a>(cmd: &'a [u8], key: &'a [u8], value: &'a [u8]) -> Command<'a> {
-    Command {
-        cmd,
-        key,
-        value,
-        expires: b"",
-        amount: b"",
-    }
-}
-
-// Puts a text behind its length.
-fn push_text(block: &mut Vec<u8>, text: &[u8]) -> Result<(), AllocError> {
-    let len = (text.len() % 65536) as u16;
-    block.extend_from_slice(&[(len % 256) as u8, (len / 256) as u8])?;
-    block.extend_from_slice(text)
-}
-
-// A packet with a command block.
-fn commanded(alloc: Global, command: &Command) -> Result<Vec<u8>, AllocError> {
-    let pairs: [(&[u8], &[u8]); 5] = [
-        (b"cmd", command.cmd),
-        (b"key", command.key),
-        (b"value", command.value),
-        (b"expires", command.expires),
-        (b"amount", command.amount),
-    ];
-    let mut block = Vec::new(alloc);
-    for (name, value) in pairs {
-        if !value.is_empty() {
-            push_text(&mut block, name)?;
-            push_text(&mut block, value)?;
-        }
-    }
-    packet(alloc, 200, block.as_slice())
-}
+// The cache `c` of four entries.
+const ONE_CACHE: &[u8] = b"[uwsgi]\ncache2 = name=c,items=4,blocksize=64\n";
 
 const SET_AND_GET: &[u8] = b"\x6f\x06\x00\x01\x01\x00k\x01\x00v\x6f\x01\x00\x00k";
 
-// The largest and the least number of 64 bits, as values.
-const LARGEST: &[u8] = b"\xff\xff\xff\xff\xff\xff\xff\x7f";
-
-const LEAST: &[u8] = b"\x00\x00\x00\x00\x00\x00\x00\x80";
-
 const OK_AND_VALUE: &[u8] = b"\x02\x00\x00\x00ok\x01\x00\x00\x00v";
 
+const USAGE: &[u8] = b"usage: uwsgi_server FILE SPOOL pipe, spool, steps, load or serve";
+
+// An empty run.
+const PIPE: Case = Case {
+    words: &["pipe"],
+    conf: ONE_CACHE,
+    input: b"",
+    conf_fails: &[],
+    read_fails: &[],
+    write_fails: &[],
+    output: b"",
+    status: 0,
+    text: b"",
+};
+
+const CASES: [Case; 41] = [
+    PIPE,
+    Case {
+        input: SET_AND_GET,
+        output: OK_AND_VALUE,
+        ..PIPE
+    },
+    Case {
+        input: b"\x6f\x06\x00\x01\x01\x00k\x01\x00v\x6f\x06\x00\x01\x01\x00k\x01\x00w\x6f\x01\x00\x00k",
+        output: b"\x02\x00\x00\x00ok\x06\x00\x00\x00exists\x01\x00\x00\x00v",
+        ..PIPE
+    },
+    Case {
+        input: b"\x6f\x01\x00\x00k",
+        output: b"\x00\x00\x00\x00",
+        ..PIPE
+    },
+    // Packets that are refused or cut.
+    Case {
+        input: b"\x6f\x03\x00\x01\x01\x00k",
+        status: 6,
+        text: b"bad block at 3",
+        ..PIPE
+    },
+    Case {
+        input: b"\x6f\x06\x00\x01\x01\x00k\x02\x00v",
+        status: 6,
+        text: b"bad block at 3",
+        ..PIPE
+    },
+    Case {
+        input: b"\x6f\x06\x00\x01\x01\x00k\x01\x00v\x6f\x05\x00\x00abc",
+        output: b"\x02\x00\x00\x00ok",
+        status: 5,
+        text: b"truncated: got 3, want 5",
+        ..PIPE
+    },
+    Case {
+        input: b"\x6f",
+        status: 5,
+        text: b"truncated: got 1, want 4",
+        ..PIPE
+    },
+    Case {
+        input: b"\x6f\x06\x00",
+        status: 5,
+        text: b"truncated: got 3, want 4",
+        ..PIPE
+    },
+    Case {
+        input: b"\x6f\x06\x00\x01",
+        status: 5,
+        text: b"truncated: got 0, want 6",
+        ..PIPE
+    },
+    Case {
+        input: b"\x6f\x01\x10\x00",
+        status: 6,
+        text: b"packet too big: 4097 above 4096",
+        ..PIPE
+    },
+    Case {
+        input: b"\x05\x00\x00\x00",
+        status: 6,
+        text: b"no modifier: 5, 0",
+        ..PIPE
+    },
+    Case {
+        input: b"\x6f\x00\x00\x03",
+        status: 6,
+        text: b"no modifier: 111, 3",
+        ..PIPE
+    },
+    // A smaller limit, and no cache.
+    Case {
+        conf: b"[uwsgi]\nbuffer-size = 6\ncache2 = name=c,items=4\n",
+        input: b"\x6f\x06\x00\x01\x01\x00k\x01\x00v\x6f\x07\x00\x00",
+        output: b"\x02\x00\x00\x00ok",
+        status: 6,
+        text: b"packet too big: 7 above 6",
+        ..PIPE
+    },
+    Case {
+        conf: b"[uwsgi]\n",
+        input: b"\x6f\x06\x00\x01\x01\x00k\x01\x00v\x6f\x01\x00\x00k",
+        output: b"\x0d\x00\x00\x00unknown cache\x00\x00\x00\x00",
+        ..PIPE
+    },
+    Case { conf: b"", ..PIPE },
+    // Reads and writes that fail.
+    Case {
+        input: SET_AND_GET,
+        read_fails: &[1],
+        status: 3,
+        text: b"read failed",
+        ..PIPE
+    },
+    Case {
+        input: SET_AND_GET,
+        read_fails: &[2],
+        status: 3,
+        text: b"read failed",
+        ..PIPE
+    },
+    Case {
+        input: SET_AND_GET,
+        read_fails: &[3],
+        output: b"\x02\x00\x00\x00ok",
+        status: 3,
+        text: b"read failed",
+        ..PIPE
+    },
+    Case {
+        input: SET_AND_GET,
+        read_fails: &[5],
+        output: OK_AND_VALUE,
+        status: 3,
+        text: b"read failed",
+        ..PIPE
+    },
+    Case {
+        input: SET_AND_GET,
+        write_fails: &[1],
+        status: 4,
+        text: b"write failed",
+        ..PIPE
+    },
+    Case {
+        input: SET_AND_GET,
+        write_fails: &[2],
+        output: b"\x02\x00\x00\x00ok",
+        status: 4,
+        text: b"write failed",
+        ..PIPE
+    },
+    Case {
+        input: SET_AND_GET,
+        conf_fails: &[1],
+        status: 3,
+        text: b"read failed",
+        ..PIPE
+    },
+    Case {
+        input: SET_AND_GET,
+        conf_fails: &[2],
+        status: 3,
+        text: b"read failed",
+        ..PIPE
+    },
+    // Configurations that are refused.
+    Case {
+        conf: b"[uwsgi]\ncache2 = items=5\n",
+        input: SET_AND_GET,
+        status: 2,
+        text: b"conf line 2: Missing",
+        ..PIPE
+    },
+    Case {
+        conf: b"[uwsgi]\ncache2 = name=c,items=20000\n",
+        status: 2,
+        text: b"conf line 2: TooLarge",
+        ..PIPE
+    },
+    Case {
+        conf: b"[uwsgi]\nfrob = 1\n",
+        status: 2,
+        text: b"conf line 2: UnknownOption",
+        ..PIPE
+    },
+    // Words that are no command, whatever the configuration.
+    Case {
+        words: &[],
+        conf: b"frob",
+        status: 1,
+        text: USAGE,
+        ..PIPE
+    },
+    Case {
+        words: &["Pipe"],
+        status: 1,
+        text: USAGE,
+        ..PIPE
+    },
+    Case {
+        words: &["pipe", "--die", "0"],
+        status: 1,
+        text: USAGE,
+        ..PIPE
+    },
+    Case {
+        words: &["pipe", "--die"],
+        status: 1,
+        text: USAGE,
+        ..PIPE
+    },
+    Case {
+        words: &["pipe", "--die", "1"],
+        status: 1,
+        text: USAGE,
+        ..PIPE
+    },
+    Case {
+        words: &["load", "1"],
+        status: 1,
+        text: USAGE,
+        ..PIPE
+    },
+    Case {
+        words: &["serve"],
+        status: 1,
+        text: USAGE,
+        ..PIPE
+    },
+    // Loads, which leave the input.
+    Case {
+        words: &["load", "1", "9"],
+        conf: b"[uwsgi]\ncache2 = name=c,items=100,blocksize=64\n",
+        input: b"\x05",
+        output: b"packets 9\nvalue 0\nmissing 8\nok 1\nnumber 0\nother 0\nbytes 58\n",
+        ..PIPE
+    },
+    Case {
+        words: &["load", "1", "0"],
+        output: b"packets 0\nvalue 0\nmissing 0\nok 0\nnumber 0\nother 0\nbytes 0\n",
+        ..PIPE
+    },
+    Case {
+        words: &["load", "1", "9"],
+        conf: b"[uwsgi]\n",
+        status: 2,
+        text: b"conf line 0: Missing",
+        ..PIPE
+    },
+    Case {
+        words: &["load", "1", "9"],
+        conf: b"frob",
+        status: 2,
+        text: b"conf line 1: BadLine",
+        ..PIPE
+    },
+    Case {
+        words: &["load", "1", "9"],
+        conf: b"[uwsgi]\ncache2 = name=c,items=4\nbuffer-size = 20\n",
+        status: 6,
+        text: b"packet too big: 21 above 20",
+        ..PIPE
+    },
+    Case {
+        words: &["load", "1", "9"],
+        write_fails: &[1],
+        status: 4,
+        text: b"write failed",
+        ..PIPE
+    },
+    Case {
+        words: &["load", "1", "9"],
+        conf_fails: &[1],
+        status: 3,
+        text: b"read failed",
+        ..PIPE
+    },
+];
+
 #[test]
-fn each_packet_has_its_frame(rt: HostRuntime) -> Result<(), Fail> {
+fn each_run_writes_its_output_and_ends_with_its_status(rt: HostRuntime) -> Result<(), Fail> {
     let alloc = rt.alloc();
-    let rows: [(&[u8], &[u8], u8, &[u8]); 14] = [
-        (b"", b"", 0, b""),
-        (SET_AND_GET, OK_AND_VALUE, 0, b""),
-        (b"\x6f\x01\x00\x00k", b"\x00\x00\x00\x00", 0, b""),
-        (
-            b"\x6f\x06\x00\x01\x01\x00k\x01\x00v\x6f\x06\x00\x01\x01\x00k\x01\x00w\x6f\x01\x00\x00k",
-            b"\x02\x00\x00\x00ok\x06\x00\x00\x00exists\x01\x00\x00\x00v",
-            0,
-            b"",
-        ),
-        (b"\x6f\x03\x00\x01\x01\x00k", b"", 6, b"bad block at 3"),
-        (
-            b"\x6f\x06\x00\x01\x01\x00k\x01\x00v\x6f\x05\x00\x00abc",
-            b"\x02\x00\x00\x00ok",
-            5,
-            b"truncated: got 3, want 5",
-        ),
-        (
-            b"\x6f\x01\x10\x00",
-            b"",
-            6,
-            b"packet too big: 4097 above 4096",
-        ),
-        (b"\x05\x00\x00\x00", b"", 6, b"no modifier: 5, 0"),
-        (b"\x6f\x00\x00\x03", b"", 6, b"no modifier: 111, 3"),
-        (
-            b"\x6f\x06\x00\x01\x01\x00k\x02\x00v",
-            b"",
-            6,
-            b"bad block at 3",
-        ),
-        (b"\x6f", b"", 5, b"truncated: got 1, want 4"),
-        (b"\x6f\x06\x00", b"", 5, b"truncated: got 3, want 4"),
-        (b"\x6f\x06\x00\x01", b"", 5, b"truncated: got 0, want 6"),
-        (
-            b"\x6f\x06\x00\x01\x01\x00k\x01\x00",
-            b"",
-            5,
-            b"truncated: got 5, want 6",
-        ),
-    ];
-    for (input, output, status, text) in rows {
-        let ran = ran(alloc, &["pipe"], input, &[], &[], &[])?;
-        assert_eq!(rt; ran.end.status, status, "{input:?}");
-        assert_eq!(rt; ran.output.as_slice(), output, "{input:?}");
-        assert_eq!(rt; ran.text.as_slice(), text, "{input:?}");
+    for (number, case) in CASES.iter().enumerate() {
+        let ran = ran(alloc, case, case.input, &[])?;
+        assert_eq!(rt; ran.end.status, case.status, "case {number}");
+        assert_eq!(rt; ran.output.as_slice(), case.output, "case {number}");
+        assert_eq!(rt; ran.text.as_slice(), case.text, "case {number}");
+    }
+    Ok(())
+}
+
+// Commands over a configuration, each by its names and values in turn, and the replies at these moments.
+struct Commands {
+    conf: &'static [u8],
+    moments: &'static [u64],
+    rows: &'static [(&'static [&'static [u8]], &'static [u8])],
+}
+
+const K2048: [u8; 2048] = [b'k'; 2048];
+
+const K2049: [u8; 2049] = [b'k'; 2049];
+
+const O496: [u8; 496] = [b'o'; 496];
+
+const O33: [u8; 33] = [b'o'; 33];
+
+const O32: [u8; 32] = [b'o'; 32];
+
+const COMMANDS: [Commands; 13] = [
+    // Every command.
+    Commands {
+        conf: ONE_CACHE,
+        moments: &[],
+        rows: &[
+            (&[b"cmd", b"exists", b"key", b"a"], b"no"),
+            (&[b"cmd", b"set", b"key", b"a", b"value", b"1"], b"ok"),
+            (&[b"cmd", b"exists", b"key", b"a"], b"yes"),
+            (&[b"cmd", b"set", b"key", b"a", b"value", b"2"], b"exists"),
+            (&[b"cmd", b"update", b"key", b"a", b"value", b"2"], b"ok"),
+            (&[b"cmd", b"get", b"key", b"a"], b"value\n2"),
+            (&[b"cmd", b"update", b"key", b"b"], b"ok"),
+            (&[b"cmd", b"keys"], b"keys\n\x01\x00b\x01\x00a"),
+            (&[b"cmd", b"sweep"], b"number 0"),
+            (&[b"cmd", b"del", b"key", b"a"], b"ok"),
+            (&[b"cmd", b"del", b"key", b"a"], b"missing"),
+            (&[b"cmd", b"inc", b"key", b"n"], b"number 1"),
+            (
+                &[b"cmd", b"mul", b"key", b"n", b"amount", b"-7"],
+                b"number -7",
+            ),
+            (
+                &[b"cmd", b"div", b"key", b"n", b"amount", b"2"],
+                b"number -3",
+            ),
+            (&[b"cmd", b"dec", b"key", b"n"], b"number -4"),
+            (&[b"cmd", b"clear"], b"ok"),
+            (&[b"cmd", b"num", b"key", b"n"], b"number 0"),
+            (&[b"cmd", b"nothing", b"key", b"n"], b"unknown command"),
+            (
+                &[b"cmd", b"get", b"key", b"n", b"cache", b"d"],
+                b"unknown cache",
+            ),
+            (
+                &[b"cmd", b"get", b"key", b"n", b"amount", b"+1"],
+                b"bad number",
+            ),
+            (&[b"cmd", b"get"], b"key length"),
+        ],
+    },
+    // Numbers at the ends of their type.
+    Commands {
+        conf: ONE_CACHE,
+        moments: &[],
+        rows: &[
+            (
+                &[
+                    b"cmd",
+                    b"set",
+                    b"key",
+                    b"k",
+                    b"value",
+                    b"\xff\xff\xff\xff\xff\xff\xff\x7f",
+                ],
+                b"ok",
+            ),
+            (&[b"cmd", b"inc", b"key", b"k"], b"range"),
+            (
+                &[b"cmd", b"num", b"key", b"k"],
+                b"number 9223372036854775807",
+            ),
+            (
+                &[b"cmd", b"div", b"key", b"k", b"amount", b"0"],
+                b"zero divisor",
+            ),
+            (&[b"cmd", b"set", b"key", b"j", b"value", b"seven77"], b"ok"),
+            (&[b"cmd", b"num", b"key", b"j"], b"not a number"),
+            (
+                &[
+                    b"cmd",
+                    b"set",
+                    b"key",
+                    b"m",
+                    b"value",
+                    b"\x00\x00\x00\x00\x00\x00\x00\x80",
+                ],
+                b"ok",
+            ),
+            (&[b"cmd", b"div", b"key", b"m", b"amount", b"-1"], b"range"),
+            (&[b"cmd", b"inc", b"key", b"z"], b"number 1"),
+        ],
+    },
+    // Time that runs back.
+    Commands {
+        conf: ONE_CACHE,
+        moments: &[10, 20, 19],
+        rows: &[
+            (
+                &[
+                    b"cmd", b"set", b"key", b"k", b"value", b"v", b"expires", b"10",
+                ],
+                b"ok",
+            ),
+            (&[b"cmd", b"get", b"key", b"k"], b"missing"),
+            (&[b"cmd", b"get", b"key", b"k"], b"value\nv"),
+        ],
+    },
+    // A get is a use, and to ask whether a key exists is none.
+    Commands {
+        conf: b"[uwsgi]\ncache2 = name=c,items=2,blocksize=64,purge_lru=1\n",
+        moments: &[],
+        rows: &[
+            (&[b"cmd", b"set", b"key", b"a", b"value", b"1"], b"ok"),
+            (&[b"cmd", b"set", b"key", b"b", b"value", b"2"], b"ok"),
+            (&[b"cmd", b"exists", b"key", b"a"], b"yes"),
+            (&[b"cmd", b"set", b"key", b"c", b"value", b"3"], b"ok"),
+            (&[b"cmd", b"get", b"key", b"a"], b"missing"),
+            (&[b"cmd", b"get", b"key", b"b"], b"value\n2"),
+        ],
+    },
+    Commands {
+        conf: b"[uwsgi]\ncache2 = name=c,items=2,blocksize=64,purge_lru=1\n",
+        moments: &[],
+        rows: &[
+            (&[b"cmd", b"set", b"key", b"a", b"value", b"1"], b"ok"),
+            (&[b"cmd", b"set", b"key", b"b", b"value", b"2"], b"ok"),
+            (&[b"cmd", b"get", b"key", b"a"], b"value\n1"),
+            (&[b"cmd", b"set", b"key", b"c", b"value", b"3"], b"ok"),
+            (&[b"cmd", b"get", b"key", b"a"], b"value\n1"),
+            (&[b"cmd", b"get", b"key", b"b"], b"missing"),
+        ],
+    },
+    // A run of blocks past 64.
+    Commands {
+        conf: b"[uwsgi]\ncache2 = name=c,items=10,blocksize=8,bitmap=1,blocks=70\n",
+        moments: &[],
+        rows: &[
+            (&[b"cmd", b"set", b"key", b"a", b"value", &O496], b"ok"),
+            (&[b"cmd", b"set", b"key", b"b", b"value", &O32], b"ok"),
+            (&[b"cmd", b"set", b"key", b"d", b"value", &O32], b"ok"),
+            (&[b"cmd", b"del", b"key", b"b"], b"ok"),
+            (&[b"cmd", b"set", b"key", b"e", b"value", &O33], b"full"),
+            (&[b"cmd", b"set", b"key", b"f", b"value", &O32], b"ok"),
+        ],
+    },
+    // An update for which there is no room leaves the old value.
+    Commands {
+        conf: b"[uwsgi]\ncache2 = name=c,items=10,blocksize=8,bitmap=1,blocks=4\n",
+        moments: &[],
+        rows: &[
+            (
+                &[b"cmd", b"set", b"key", b"k", b"value", b"oooooooooooooooo"],
+                b"ok",
+            ),
+            (
+                &[b"cmd", b"set", b"key", b"j", b"value", b"oooooooooooooooo"],
+                b"ok",
+            ),
+            (
+                &[
+                    b"cmd",
+                    b"update",
+                    b"key",
+                    b"k",
+                    b"value",
+                    b"nnnnnnnnnnnnnnnnnnnnnnnn",
+                ],
+                b"full",
+            ),
+            (&[b"cmd", b"get", b"key", b"k"], b"value\noooooooooooooooo"),
+        ],
+    },
+    // The largest value drops all others.
+    Commands {
+        conf: b"[uwsgi]\ncache2 = name=c,items=3,blocksize=8,bitmap=1,blocks=4,purge_lru=1\n",
+        moments: &[],
+        rows: &[
+            (&[b"cmd", b"set", b"key", b"a", b"value", b"1"], b"ok"),
+            (&[b"cmd", b"set", b"key", b"b", b"value", b"1"], b"ok"),
+            (&[b"cmd", b"set", b"key", b"c", b"value", b"1"], b"ok"),
+            (&[b"cmd", b"set", b"key", b"d", b"value", &O32], b"ok"),
+            (&[b"cmd", b"keys"], b"keys\n\x01\x00d"),
+        ],
+    },
+    // The longest key.
+    Commands {
+        conf: b"[uwsgi]\ncache2 = name=c,items=4\n",
+        moments: &[],
+        rows: &[
+            (&[b"cmd", b"set", b"key", &K2048], b"ok"),
+            (&[b"cmd", b"set", b"key", &K2049], b"key length"),
+            (&[b"cmd", b"set"], b"key length"),
+            (&[b"cmd", b"get", b"key", &K2048], b"value\n"),
+        ],
+    },
+    // What makes room in a full cache: to drop what is dead, or all.
+    Commands {
+        conf: b"[uwsgi]\ncache2 = name=c,items=1,blocksize=64,sweep_on_full=1\n",
+        moments: &[10, 14, 15, 15],
+        rows: &[
+            (
+                &[
+                    b"cmd", b"set", b"key", b"a", b"value", b"1", b"expires", b"5",
+                ],
+                b"ok",
+            ),
+            (&[b"cmd", b"set", b"key", b"b", b"value", b"2"], b"full"),
+            (&[b"cmd", b"set", b"key", b"b", b"value", b"2"], b"ok"),
+            (&[b"cmd", b"get", b"key", b"a"], b"missing"),
+        ],
+    },
+    Commands {
+        conf: b"[uwsgi]\ncache2 = name=c,items=1,blocksize=64,clear_on_full=1\n",
+        moments: &[],
+        rows: &[
+            (&[b"cmd", b"set", b"key", b"a", b"value", b"1"], b"ok"),
+            (&[b"cmd", b"set", b"key", b"b", b"value", b"2"], b"ok"),
+            (&[b"cmd", b"keys"], b"keys\n\x01\x00b"),
+        ],
+    },
+    // Two caches, of which the first is meant where none is named.
+    Commands {
+        conf: b"[uwsgi]\ncache2 = name=one,items=4\ncache2 = name=two,items=1\n",
+        moments: &[],
+        rows: &[
+            (&[b"cmd", b"set", b"key", b"k", b"value", b"1"], b"ok"),
+            (
+                &[
+                    b"cmd", b"set", b"key", b"k", b"value", b"2", b"cache", b"two",
+                ],
+                b"ok",
+            ),
+            (
+                &[
+                    b"cmd", b"set", b"key", b"j", b"value", b"2", b"cache", b"two",
+                ],
+                b"full",
+            ),
+            (&[b"cmd", b"get", b"key", b"k"], b"value\n1"),
+            (
+                &[b"cmd", b"get", b"key", b"k", b"cache", b"one"],
+                b"value\n1",
+            ),
+            (
+                &[b"cmd", b"get", b"key", b"k", b"cache", b"two"],
+                b"value\n2",
+            ),
+            (
+                &[b"cmd", b"get", b"key", b"k", b"cache", b"three"],
+                b"unknown cache",
+            ),
+        ],
+    },
+    // No cache.
+    Commands {
+        conf: b"[uwsgi]\n",
+        moments: &[],
+        rows: &[
+            (&[b"cmd", b"get", b"key", b"k"], b"unknown cache"),
+            (&[b"cmd", b"nothing"], b"unknown command"),
+        ],
+    },
+];
+
+// Puts a command block with these names and values, as a packet.
+fn push_command(input: &mut Vec<u8>, alloc: Global, texts: &[&[u8]]) -> Result<(), AllocError> {
+    let mut block = Vec::new(alloc);
+    for text in texts {
+        let len = (text.len() % 65536) as u16;
+        block.extend_from_slice(&len.to_le_bytes())?;
+        block.extend_from_slice(text)?;
+    }
+    let size = (block.len() % 65536) as u16;
+    input.push(111)?;
+    input.extend_from_slice(&size.to_le_bytes())?;
+    input.push(200)?;
+    input.extend_from_slice(block.as_slice())
+}
+
+#[test]
+fn each_command_has_its_reply(rt: HostRuntime) -> Result<(), Fail> {
+    let alloc = rt.alloc();
+    for (number, commands) in COMMANDS.iter().enumerate() {
+        let mut input = Vec::new(alloc);
+        let mut wanted = Vec::new(alloc);
+        for (texts, reply) in commands.rows {
+            push_command(&mut input, alloc, texts)?;
+            wanted.extend_from_slice(&[(reply.len() % 256) as u8, 0, 0, 0])?;
+            wanted.extend_from_slice(reply)?;
+        }
+        let case = Case {
+            conf: commands.conf,
+            ..PIPE
+        };
+        let ran = ran(alloc, &case, input.as_slice(), commands.moments)?;
+        assert_eq!(rt; ran.end.status, 0, "commands {number}");
+        assert_eq!(rt;
+            ran.output.as_slice(),
+            wanted.as_slice(),
+            "commands {number}"
+        );
     }
     Ok(())
 }
@@ -170,17 +677,10 @@ fn each_packet_has_its_moment(rt: HostRuntime) -> Result<(), Fail> {
     let alloc = rt.alloc();
     let mut input = Vec::new(alloc);
     for value in [b'a', b'b', b'c', b'd'] {
-        let block = [1, 0, b'k', 1, 0, value, 2, 0, b'1', b'0'];
-        input.extend_from_slice(packet(alloc, 1, &block)?.as_slice())?;
+        let set = [111, 10, 0, 1, 1, 0, b'k', 1, 0, value, 2, 0, b'1', b'0'];
+        input.extend_from_slice(&set)?;
     }
-    let ran = ran(
-        alloc,
-        &["pipe"],
-        input.as_slice(),
-        &[10, 15, 20, 31],
-        &[],
-        &[],
-    )?;
+    let ran = ran(alloc, &PIPE, input.as_slice(), &[10, 15, 20, 31])?;
     assert_eq!(rt; ran.end.status, 0);
     assert_eq!(rt;
         ran.output.as_slice(),
@@ -194,182 +694,22 @@ fn each_packet_has_its_moment(rt: HostRuntime) -> Result<(), Fail> {
     Ok(())
 }
 
-#[test]
-fn numbers_end_at_their_type(rt: HostRuntime) -> Result<(), Fail> {
-    let rows: [(Command, &[u8]); 9] = [
-        (of(b"set", b"k", LARGEST), b"ok"),
-        (of(b"inc", b"k", b""), b"range"),
-        (of(b"num", b"k", b""), b"number 9223372036854775807"),
-        (
-            Command {
-                amount: b"0",
-                ..of(b"div", b"k", b"")
-            },
-            b"zero divisor",
-        ),
-        (of(b"set", b"j", b"seven77"), b"ok"),
-        (of(b"num", b"j", b""), b"not a number"),
-        (of(b"set", b"m", LEAST), b"ok"),
-        (
-            Command {
-                amount: b"-1",
-                ..of(b"div", b"m", b"")
-            },
-            b"range",
-        ),
-        (of(b"inc", b"z", b""), b"number 1"),
-    ];
-    let (output, wanted) = answered(rt.alloc(), &rows, &[])?;
-    assert_eq!(rt; output.as_slice(), wanted.as_slice());
-    Ok(())
-}
+const LONG_LOAD: &[u8] =
+    b"packets 100000\nvalue 37386\nmissing 15710\nok 34546\nnumber 4429\nother 7929\nbytes 888291\n";
 
+// Over a cache that holds the 256 keys of a load. The figures were reckoned by another program.
 #[test]
-fn a_moment_that_runs_back_finds_what_had_died(rt: HostRuntime) -> Result<(), Fail> {
-    let rows: [(Command, &[u8]); 3] = [
-        (
-            Command {
-                expires: b"10",
-                ..of(b"set", b"k", b"v")
-            },
-            b"ok",
-        ),
-        (of(b"get", b"k", b""), b"missing"),
-        (of(b"get", b"k", b""), b"value\nv"),
-    ];
-    let (output, wanted) = answered(rt.alloc(), &rows, &[10, 20, 19])?;
-    assert_eq!(rt; output.as_slice(), wanted.as_slice());
-    Ok(())
-}
-
-#[test]
-fn each_command_has_its_reply(rt: HostRuntime) -> Result<(), Fail> {
-    let rows: [(Command, &[u8]); 20] = [
-        (of(b"exists", b"a", b""), b"no"),
-        (of(b"set", b"a", b"1"), b"ok"),
-        (of(b"exists", b"a", b""), b"yes"),
-        (of(b"set", b"a", b"2"), b"exists"),
-        (of(b"update", b"a", b"2"), b"ok"),
-        (of(b"get", b"a", b""), b"value\n2"),
-        (of(b"update", b"b", b""), b"ok"),
-        (of(b"keys", b"", b""), b"keys\n\x01\x00b\x01\x00a"),
-        (of(b"sweep", b"", b""), b"number 0"),
-        (of(b"del", b"a", b""), b"ok"),
-        (of(b"del", b"a", b""), b"missing"),
-        (of(b"inc", b"n", b""), b"number 1"),
-        (
-            Command {
-                amount: b"-7",
-                ..of(b"mul", b"n", b"")
-            },
-            b"number -7",
-        ),
-        (
-            Command {
-                amount: b"2",
-                ..of(b"div", b"n", b"")
-            },
-            b"number -3",
-        ),
-        (of(b"dec", b"n", b""), b"number -4"),
-        (of(b"clear", b"", b""), b"ok"),
-        (of(b"num", b"n", b""), b"number 0"),
-        (of(b"nothing", b"n", b""), b"unknown command"),
-        (
-            Command {
-                amount: b"+1",
-                ..of(b"get", b"n", b"")
-            },
-            b"bad number",
-        ),
-        (of(b"get", b"", b""), b"key length"),
-    ];
-    let (output, wanted) = answered(rt.alloc(), &rows, &[])?;
-    assert_eq!(rt; output.as_slice(), wanted.as_slice());
-    Ok(())
-}
-
-// What a run of the rows' commands writes, and the frames of their texts.
-fn answered(
-    alloc: Global,
-    rows: &[(Command, &[u8])],
-    moments: &[u64],
-) -> Result<(Vec<u8>, Vec<u8>), AllocError> {
-    let mut input = Vec::new(alloc);
-    let mut wanted = Vec::new(alloc);
-    for (command, text) in rows {
-        input.extend_from_slice(commanded(alloc, command)?.as_slice())?;
-        wanted.extend_from_slice(&[(text.len() % 256) as u8, 0, 0, 0])?;
-        wanted.extend_from_slice(text)?;
-    }
-    let ran = ran(alloc, &["pipe"], input.as_slice(), moments, &[], &[])?;
-    Ok((ran.output, wanted))
-}
-
-#[test]
-fn a_key_has_its_most_bytes(rt: HostRuntime) -> Result<(), Fail> {
+fn a_long_load_has_its_figures_each_time(rt: HostRuntime) -> Result<(), Fail> {
     let alloc = rt.alloc();
-    let mut input = Vec::new(alloc);
-    for len in [2048, 2049, 0] {
-        let mut block = Vec::new(alloc);
-        block.extend_from_slice(&[(len % 256) as u8, (len / 256) as u8])?;
-        block.extend_from_slice(vec![in alloc; b'k'; len]?.as_slice())?;
-        block.extend_from_slice(&[0, 0])?;
-        input.extend_from_slice(packet(alloc, 1, block.as_slice())?.as_slice())?;
-    }
-    let ran = ran(alloc, &["pipe"], input.as_slice(), &[], &[], &[])?;
-    assert_eq!(rt; ran.end.status, 0);
-    assert_eq!(rt;
-        ran.output.as_slice(),
-        b"\x02\x00\x00\x00ok\x0a\x00\x00\x00key length\x0a\x00\x00\x00key length".as_slice()
-    );
-    Ok(())
-}
-
-#[test]
-fn a_fault_ends_the_run_and_nothing_before_it_is_lost(rt: HostRuntime) -> Result<(), Fail> {
-    let alloc = rt.alloc();
-    // The reads and the writes that fail, the output, the status and the text.
-    let rows: [(&[u64], &[u64], &[u8], u8, &[u8]); 6] = [
-        (&[1], &[], b"", 3, b"read failed"),
-        (&[2], &[], b"", 3, b"read failed"),
-        (&[3], &[], b"\x02\x00\x00\x00ok", 3, b"read failed"),
-        (&[5], &[], OK_AND_VALUE, 3, b"read failed"),
-        (&[], &[1], b"", 4, b"write failed"),
-        (&[], &[2], b"\x02\x00\x00\x00ok", 4, b"write failed"),
-    ];
-    for (read_fails, write_fails, output, status, text) in rows {
-        let ran = ran(alloc, &["pipe"], SET_AND_GET, &[], read_fails, write_fails)?;
-        assert_eq!(rt; ran.end.status, status, "{read_fails:?} {write_fails:?}");
-        assert_eq!(rt;
-            ran.output.as_slice(),
-            output,
-            "{read_fails:?} {write_fails:?}"
-        );
-        assert_eq!(rt; ran.text.as_slice(), text, "{read_fails:?} {write_fails:?}");
-    }
-    Ok(())
-}
-
-#[test]
-fn other_words_are_refused(rt: HostRuntime) -> Result<(), Fail> {
-    let alloc = rt.alloc();
-    let rows: [&[&str]; 6] = [
-        &[],
-        &["serve"],
-        &["pipe", "--die", "0"],
-        &["pipe", "--die"],
-        &["load", "1"],
-        &["Pipe"],
-    ];
-    for words in rows {
-        let ran = ran(alloc, words, SET_AND_GET, &[], &[], &[])?;
-        assert_eq!(rt; ran.end.status, 1, "{words:?}");
-        assert_eq!(rt; ran.output.as_slice(), b"".as_slice(), "{words:?}");
-        assert_eq!(rt;
-            ran.text.as_slice(),
-            b"usage: uwsgi_server FILE SPOOL pipe, spool, steps, load or serve".as_slice()
-        );
+    let case = Case {
+        words: &["load", "1", "100000"],
+        conf: b"[uwsgi]\ncache2 = name=c,items=300,blocksize=64\n",
+        ..PIPE
+    };
+    for _ in 0..2 {
+        let ran = ran(alloc, &case, b"", &[])?;
+        assert_eq!(rt; ran.end.status, 0);
+        assert_eq!(rt; ran.output.as_slice(), LONG_LOAD);
     }
     Ok(())
 }
@@ -381,11 +721,11 @@ fn a_run_has_a_million_packets_at_most(rt: HostRuntime) -> Result<(), Fail> {
     for _ in 0..1_000_000 {
         input.extend_from_slice(b"\x6f\x01\x00\x00k")?;
     }
-    let most = ran(alloc, &["pipe"], input.as_slice(), &[], &[], &[])?;
+    let most = ran(alloc, &PIPE, input.as_slice(), &[])?;
     assert_eq!(rt; most.end.status, 0);
     assert_eq!(rt; most.output.len(), 4_000_000);
     input.extend_from_slice(b"\x6f\x01\x00\x00k")?;
-    let more = ran(alloc, &["pipe"], input.as_slice(), &[], &[], &[])?;
+    let more = ran(alloc, &PIPE, input.as_slice(), &[])?;
     assert_eq!(rt; more.end.status, 9);
     assert_eq!(rt; more.output.len(), 4_000_000);
     assert_eq!(rt; more.text.as_slice(), b"too many".as_slice());

@@ -1,16 +1,8 @@
-use Rattle.std.proofs.Common.{◌≡◌, ◌∙◌, sym, inl, inr}
-use Rattle.std.proofs.lemmas.Bool.{false≢true}
-use Rattle.uw_top.specs.Pipe.{PipeRun}
-use Rattle.uw_top.proofs.Machine.{nothing_done}
+use Rattle.std.proofs.Common.{inr, refl}
+use Rattle.uw_top.proofs.Configuring.{nothing_read}
 use Rattle.uw_top.proofs.runs.run.Goals as goal
 
--- words that are `pipe` are refused for want of memory alone
-pub returns-in-Some-clause-piped : goal.returns-in-Some-clause-piped
-returns-in-Some-clause-piped g c = λ words.
-    elim c.in-Some.ensures.some [
-      | inl h ↦ absurd (false≢true (sym h.1 ∙ words))
-      | inr h ↦ rw (c.end.ensures, c.new.ensures, h) (nothing_done g.C.Clock.gave g.met.C.Clock.gave_none _ _ _ c.args.clock.now _ _ _ _ _)
-    ]
-
-pub returns-in-Err-clause-piped : goal.returns-in-Err-clause-piped
-returns-in-Err-clause-piped g c = λ words. rw c.end-in-Err.ensures (rw c.new-in-Err.ensures (nothing_done g.C.Clock.gave g.met.C.Clock.gave_none _ _ _ c.args.clock.now _ _ _ _ _))
+-- there was no memory to read the words
+pub returns-in-Err-Memory-clause-loads : goal.returns-in-Err-Memory-clause-loads
+returns-in-Err-Memory-clause-loads g c =
+    λ first count words. rw c.refused-in-Err-Memory.ensures (inr (nothing_read _, (refl, refl, refl, refl)))

@@ -1,7 +1,6 @@
-use Rattle.std.proofs.Common.{◌≡◌, ◌≤◌, ◌∙◌, arith, rules, subst, ap}
-use Rattle.uw_top.specs.Turns.{SoFar}
+use Rattle.std.proofs.Common.{◌∙◌, arith}
 use Rattle.uw_top.proofs.Machine.{turn_ends, turn_goes, run_is_full}
-use Rattle.uw_top.proofs.runs.serve.Goals as goal
+use Rattle.uw_top.proofs.pipe.serve.Goals as goal
 
 pub returns-in-Ok-false : goal.returns-in-Ok-false
 returns-in-Ok-false g c =
@@ -18,9 +17,8 @@ loop-served-preserved g c =
     let i = c.loop-served.invariant in
     let e = c.in-Ok-true.ensures in
     record {
-      so_far = turn_goes _ g.met.C.Clock.gave_more _ _ _ _ _ _ _ _ _ _ _ _ _ _ _ _ _ _ _ i.conf i.so_far (rw c.in-Ok-true.field-0-test at e.turn);
+      so_far = turn_goes _ g.met.C.Clock.gave_more _ _ _ _ _ _ _ _ _ _ _ _ _ _ _ _ _ _ _ _ _ i.conf i.so_far (rw c.in-Ok-true.field-0-test at e.turn);
       conf = e.conf ∙ i.conf;
-      names = e.names ∙ i.names;
       src = omega (arith, e.src, i.src);
       snk = omega (arith, e.snk, i.snk);
     }

@@ -1,0 +1,224 @@
+// The command `load`: packets that a generator makes, and the figures of their replies.
+ghost use Rattle.std.specs.Prelude.{◌≡◌, ◌<◌, ◌^◌, ◌++◌, length, IfOk, OnOk};
+ghost use Rattle.std.specs.Fmt.{decimal};
+ghost use Rattle.uw_conf.specs.Sound.{AreCaches};
+ghost use Rattle.uw_top.specs.Load.{LoadRun, block_for, command_for, figure_line, figures_text, head_for, next_number, no_figures, packet_for, variables_for, with_reply};
+ghost use Rattle.uw_top.specs.Loading.{AnswersNumber, AreCounted, CanCount, WritesText};
+
+use crate::server::{Replied, Server};
+use itoa::Buffer;
+use std::alloc::Global;
+use uw_base::{Bytes, Memory, Pair, Vars};
+use uw_conf::Conf;
+use uw_ends::RunFault;
+use uw_model::Answer;
+use uw_outside::{Clock, Sink, put_all};
+use uw_packet::{Header, Packet, write_vars};
+
+/// How many packets were answered, how many of the replies were of each kind, and the bytes of all replies.
+#[derive(Clone, Copy, Debug, PartialEq, Eq)]
+pub struct Figures {
+    pub packets: u64,
+    pub value: u64,
+    pub missing: u64,
+    pub ok: u64,
+    pub number: u64,
+    pub other: u64,
+    pub bytes: u128,
+}
+
+// The next number of the generator.
+fn next_number(x: u64) -> u64
+    requires { x < 2 ^ 31 }
+    ensures next { result ≡ next_number x }
+    ensures small { result < 2 ^ 31 }
+{
+    (x * 1_103_515_245 + 12_345) % (1 << 31)
+}
+
+// The command that a number chooses.
+fn command_for(choice: u64) -> &'static [u8]
+    ensures { result.now ≡ command_for choice }
+{
+    match choice {
+        0..=3 => b"get",
+        4 | 5 => b"update",
+        6 => b"del",
+        _ => b"inc",
+    }
+}
+
+// A text and a number behind it, in decimal.
+fn with_number(alloc: Global, front: &[u8], number: u64) -> Result<Bytes, Memory>
+    ensures { IfOk result (λ text. text ≡ front.now ++ decimal number) }
+{
+    let mut text = Bytes::from_slice(alloc, front)?;
+    text.append(Buffer::new().format(number).as_bytes())?;
+    Ok(text)
+}
+
+fn pair(alloc: Global, key: &[u8], value: Bytes) -> Result<Pair, Memory>
+    ensures { IfOk result (λ pair. pair ≡ record { key = key.now; value = value }) }
+{
+    Ok(Pair {
+        key: Bytes::from_slice(alloc, key)?,
+        value,
+    })
+}
+
+// The variables of the command block that a number makes.
+fn variables_for(alloc: Global, x: u64) -> Result<Vars, Memory>
+    ensures { IfOk result (λ vars. vars ≡ variables_for x) }
+{
+    let choice = x / 65_536 % 8;
+    let mut vars = Vars::new(alloc);
+    let command = Bytes::from_slice(alloc, command_for(choice))?;
+    vars.push(pair(alloc, b"cmd", command)?)?;
+    vars.push(pair(alloc, b"key", with_number(alloc, b"k", x / 256 % 256)?)?)?;
+    if choice == 4 || choice == 5 {
+        vars.push(pair(alloc, b"value", with_number(alloc, b"", x)?)?)?;
+    }
+    Ok(vars)
+}
+
+// The packet that a number makes.
+fn packet_for(alloc: Global, x: u64) -> Result<Packet, Memory>
+    requires { x < 2 ^ 31 }
+    ensures head { IfOk result (λ packet. packet.head ≡ head_for x) }
+    ensures block { IfOk result (λ packet. packet.block ≡ block_for x) }
+    ensures short { IfOk result (λ packet. length packet.block < 2 ^ 16) }
+{
+    let vars = variables_for(alloc, x)?;
+    let Some(block) = write_vars(alloc, &vars)? else {
+        // None of its texts is longer than ten bytes.
+        unreachable!()
+    };
+    let head = Header {
+        m1: 111,
+        size: block.len() as u16,
+        m2: 200,
+    };
+    Ok(Packet { head, block })
+}
+
+// Answers the packet that a number makes.
+fn answer_number(
+    alloc: Global,
+    server: &mut Server,
+    x: u64,
+    moment: u64,
+) -> Result<Replied, RunFault>
+    requires { x < 2 ^ 31 }
+    ensures answer { AnswersNumber server.old.conf server.old.caches server.new.caches (packet_for moment x) result }
+    ensures conf { server.new.conf ≡ server.old.conf }
+{
+    let packet = packet_for(alloc, x)?;
+    match server.judge(&packet.head) {
+        None => server.reply(alloc, moment, &packet),
+        Some(refused) => Err(RunFault::BadPacket(refused)),
+    }
+}
+
+impl Figures {
+    fn new() -> Figures
+        ensures { result ≡ no_figures }
+    {
+        Figures {
+            packets: 0,
+            value: 0,
+            missing: 0,
+            ok: 0,
+            number: 0,
+            other: 0,
+            bytes: 0,
+        }
+    }
+
+    // Counts a reply.
+    fn count(&mut self, replied: &Replied)
+        requires { CanCount self.old }
+        ensures more { self.new ≡ with_reply self.old replied.now.answer replied.now.text }
+        ensures counted { AreCounted self.new }
+    {
+        self.packets += 1;
+        self.bytes += replied.text.len() as u128;
+        match replied.answer {
+            Some(Answer::Value(_)) => self.value += 1,
+            Some(Answer::Missing) => self.missing += 1,
+            Some(Answer::Done) => self.ok += 1,
+            Some(Answer::Number(_)) => self.number += 1,
+            _ => self.other += 1,
+        }
+    }
+
+    // The seven lines of figures.
+    fn text(&self, alloc: Global) -> Result<Bytes, Memory>
+        ensures { IfOk result (λ text. text ≡ figures_text self.now) }
+    {
+        let mut text = Bytes::new(alloc);
+        put_line(&mut text, b"packets ", u128::from(self.packets))?;
+        put_line(&mut text, b"value ", u128::from(self.value))?;
+        put_line(&mut text, b"missing ", u128::from(self.missing))?;
+        put_line(&mut text, b"ok ", u128::from(self.ok))?;
+        put_line(&mut text, b"number ", u128::from(self.number))?;
+        put_line(&mut text, b"other ", u128::from(self.other))?;
+        put_line(&mut text, b"bytes ", self.bytes)?;
+        Ok(text)
+    }
+}
+
+// Puts a line of a name and a number at the end of a text.
+fn put_line(text: &mut Bytes, name: &[u8], number: u128) -> Result<(), Memory>
+    ensures { OnOk result (text.new ≡ text.old ++ figure_line name.now number) }
+{
+    text.append(name)?;
+    text.append(Buffer::new().format(number).as_bytes())?;
+    text.push(b'\n')
+}
+
+/// Answers `count` packets that a generator makes from its first number, over empty caches, and writes seven lines of
+/// figures, by one write where the sink takes it whole. The clock is asked once for each packet.
+pub fn load<K: Sink, C: Clock>(
+    alloc: Global,
+    conf: Conf,
+    first: u64,
+    count: u64,
+    snk: &mut K,
+    clock: &mut C,
+) -> Option<RunFault>
+    requires caches { AreCaches conf.caches }
+    requires first { first < 2 ^ 31 }
+    ensures { LoadRun conf first count
+        (record { before = K.taken snk.old; now = K.taken snk.new; faults_before = K.faults snk.old; faults_now = K.faults snk.new })
+        (C.gave clock.old clock.new) result }
+{
+    let mut server = match Server::new(alloc, conf) {
+        Ok(server) => server,
+        Err(_) => return Some(RunFault::Memory),
+    };
+    let mut figures = Figures::new();
+    let mut x = first;
+    for served in 0..count {
+        x = next_number(x);
+        let moment = clock.now();
+        match answer_number(alloc, &mut server, x, moment) {
+            Ok(replied) => figures.count(&replied),
+            Err(fault) => return Some(fault),
+        }
+    }
+    write_figures(alloc, &figures, snk)
+}
+
+// Writes the lines of figures.
+fn write_figures<K: Sink>(alloc: Global, figures: &Figures, snk: &mut K) -> Option<RunFault>
+    ensures { WritesText (figures_text figures.now) (record { before = K.taken snk.old; now = K.taken snk.new; faults_before = K.faults snk.old; faults_now = K.faults snk.new }) result }
+{
+    let text = match figures.text(alloc) {
+        Ok(text) => text,
+        Err(_) => return Some(RunFault::Memory),
+    };
+    match put_all(snk, text.as_slice()) {
+        Ok(()) => None,
+        Err(_) => Some(RunFault::WriteFault),
+    }
+}

@@ -1,0 +1,158 @@
+// What answers packets: a configuration and its caches.
+ghost use Rattle.std.specs.Prelude.{◌≡◌, ◌<◌, ◌≤◌, ◌^◌, length, map, None, Some, IfOk, IfErr};
+ghost use Rattle.std.specs.List.{AllByRecursion};
+ghost use Rattle.uw_model.specs.Caches.{empty_caches};
+ghost use Rattle.uw_model.specs.Entries.{IsCacheConf};
+ghost use Rattle.uw_cachecmd.specs.Replies.{reply_text};
+ghost use Rattle.uw_ends.specs.declared.ends.RunFault.TheVariants as faults;
+ghost use Rattle.uw_top.specs.Exchange.{frame, refusal_of};
+ghost use Rattle.uw_top.specs.Turns.{AnswersPacket, RepliesTo};
+
+use byteorder::{ByteOrder, LittleEndian};
+use std::alloc::Global;
+use std::marker::Model;
+use uw_base::{Bytes, BytesList, Memory};
+use uw_cachecmd::{CmdFault, cache_reply, command, fault_reply};
+use uw_conf::Conf;
+use uw_ends::{BadPacket, RunFault};
+use uw_model::{Answer, Ask, CacheConfList, Desk, ListDesk};
+use uw_outside::Immortal;
+use uw_packet::{Header, Packet};
+
+/// Answers packets over the caches of a configuration. Contracts see the configuration and the caches.
+#[derive(Drop)]
+pub struct Server {
+    conf: Conf,
+    // The names of the caches, in their order.
+    names: BytesList,
+    desk: ListDesk,
+}
+
+impl Model for Server {
+    ghost use Rattle.std.specs.Prelude.{◌≡◌, ◌≤◌, length};
+    ghost use Rattle.uw_top.specs.Exchange.{names_of};
+    ghost use Rattle.uw_top.specs.Server.{Serving};
+
+    ghost Value = { Serving };
+
+    ghost view = { λ s. record { conf = s.conf; caches = s.desk } };
+
+    ghost invariant = { λ s. (s.names ≡ names_of s.conf) × (length s.desk ≡ length s.conf.caches) × (length s.conf.caches ≤ 16) };
+}
+
+/// A reply to a packet, and the answer of the cache behind it, where one was asked.
+#[derive(Drop)]
+pub struct Replied {
+    pub text: Bytes,
+    pub answer: Option<Answer>,
+}
+
+impl Server {
+    /// The server of a configuration, whose caches are empty.
+    pub fn new(alloc: Global, conf: Conf) -> Result<Server, Memory>
+        requires each { AllByRecursion IsCacheConf conf.caches }
+        requires few { length conf.caches ≤ 16 }
+        ensures { IfOk result (λ s. s ≡ record { conf = conf; caches = empty_caches conf.caches }) }
+    {
+        let names = names(alloc, &conf.caches)?;
+        let desk = ListDesk::new(alloc, &conf.caches)?;
+        Ok(Server { conf, names, desk })
+    }
+
+    /// Why a header is refused.
+    pub fn judge(&self, head: &Header) -> Option<BadPacket>
+        ensures { result ≡ refusal_of self.now.conf head.now }
+    {
+        if u32::from(head.size) > self.conf.buffer_size {
+            return Some(BadPacket::TooBig {
+                size: u32::from(head.size),
+                limit: self.conf.buffer_size,
+            });
+        }
+        match (head.m1, head.m2) {
+            (111, 0 | 1 | 2 | 200) => None,
+            (m1, m2) => Some(BadPacket::NoModifier { m1, m2 }),
+        }
+    }
+
+    /// The reply to a packet whose header is accepted.
+    pub fn reply(
+        &mut self,
+        alloc: Global,
+        moment: u64,
+        packet: &Packet,
+    ) -> Result<Replied, RunFault>
+        requires accepted { refusal_of self.old.conf packet.now.head ≡ None }
+        requires size { length packet.now.block ≡ packet.now.head.size }
+        requires short { length packet.now.block < 2 ^ 16 }
+        ensures reply { RepliesTo self.old.conf self.old.caches self.new.caches
+            (record { moment = moment; head = packet.now.head; block = packet.now.block }) result }
+        ensures conf { self.new.conf ≡ self.old.conf }
+    {
+        let m2 = packet.head.m2;
+        match command(alloc, m2, packet.block.as_slice(), &self.names) {
+            Ok(Ask::Cache { cache, call }) => {
+                let life = &mut Immortal::new();
+                match self.desk.cache(alloc, cache, moment, &call, life) {
+                    Ok(answer) => reply_to(alloc, m2, answer),
+                    // An immortal worker does not die.
+                    Err(_) => Err(RunFault::Memory),
+                }
+            }
+            Err(CmdFault::BadBlock { at }) => Err(RunFault::BadPacket(BadPacket::BadBlock { at })),
+            Err(CmdFault::Memory) => Err(RunFault::Memory),
+            Err(fault) => Ok(Replied {
+                text: fault_reply(alloc, m2, &fault)?,
+                answer: None,
+            }),
+        }
+    }
+
+    /// The frame that answers a packet whose header is accepted.
+    pub fn answer(&mut self, alloc: Global, moment: u64, packet: &Packet) -> Result<Bytes, RunFault>
+        requires accepted { refusal_of self.old.conf packet.now.head ≡ None }
+        requires size { length packet.now.block ≡ packet.now.head.size }
+        requires short { length packet.now.block < 2 ^ 16 }
+        ensures answer { AnswersPacket self.old.conf self.old.caches self.new.caches
+            (record { moment = moment; head = packet.now.head; block = packet.now.block }) result }
+        ensures conf { self.new.conf ≡ self.old.conf }
+    {
+        match self.reply(alloc, moment, packet) {
+            Ok(replied) => framed(alloc, &replied.text),
+            Err(fault) => Err(fault),
+        }
+    }
+}
+
+// The names of caches, in their order.
+fn names(alloc: Global, caches: &CacheConfList) -> Result<BytesList, Memory>
+    ensures { IfOk result (λ names. names ≡ map (λ c. c.name) caches.now) }
+{
+    let mut names = BytesList::new(alloc);
+    for conf in caches.as_slice() {
+        names.push(Bytes::from_slice(alloc, conf.name.as_slice())?)?;
+    }
+    Ok(names)
+}
+
+// The reply to an answer, with the answer.
+fn reply_to(alloc: Global, m2: u8, answer: Answer) -> Result<Replied, RunFault>
+    ensures text { IfOk result (λ r. r.text ≡ reply_text m2 answer) }
+    ensures answer { IfOk result (λ r. r.answer ≡ Some answer) }
+    ensures memory { IfErr result (λ e. e ≡ faults.Memory) }
+{
+    Ok(Replied {
+        text: cache_reply(alloc, m2, &answer)?,
+        answer: Some(answer),
+    })
+}
+
+// A reply behind its length modulo 2^32 in four bytes.
+fn framed(alloc: Global, reply: &Bytes) -> Result<Bytes, RunFault>
+    ensures frame { IfOk result (λ b. b ≡ frame reply.now) }
+    ensures memory { IfErr result (λ e. e ≡ faults.Memory) }
+{
+    let mut length = [0; 4];
+    LittleEndian::write_u32(&mut length, (reply.len() % (1 << 32)) as u32);
+    Ok(Bytes::joined(alloc, &length, reply.as_slice())?)
+}
