@@ -16,6 +16,10 @@ abbrev pub is_spent : List ℕ → Bool
 is_spent [] = false
 is_spent (first ∷ others) = first == 0
 
+-- the next word write is refused, where the life tells
+abbrev pub IsSpent : Option (List ℕ) → Type 0
+IsSpent left = IfSome left (λ allowances. is_spent allowances ≡ true)
+
 -- one word write asked for, where the life tells: an alive life refuses it exactly where its first allowance is spent; one that it lets through is counted, and a
 -- refusal leaves the allowances
 pub record Allows (before now : Option (List ℕ)) (alive answer : Bool) : Type 0 where
