@@ -89,9 +89,9 @@ commanded (Some kind) (Some cache) (Some ttl) None key value = Err faults.BadNum
 commanded (Some kind) (Some cache) (Some ttl) (Some by) key value = Ok (asks.Cache cache (call_of kind key value ttl by))
 
 -- the variables of a command block; other variables are passed over
-abbrev pub command_of : List (List ℕ) → Result (List Pair) ℕ → Result Ask CmdFault
-command_of names (Err at) = Err (faults.BadBlock at)
-command_of names (Ok pairs) = commanded
+abbrev pub command_block_ask : List (List ℕ) → Result (List Pair) ℕ → Result Ask CmdFault
+command_block_ask names (Err at) = Err (faults.BadBlock at)
+command_block_ask names (Ok pairs) = commanded
     (kind_of (value_of pairs (codes "cmd")))
     (cache_of names (value_of pairs (codes "cache")))
     (seconds_of (value_of pairs (codes "expires")))
@@ -105,7 +105,7 @@ ask_of m2 block names =
     if m2 == 0 then asked (cache_of names []) (calls.Get block)
     else (if m2 == 1 then set_of names block (array_read block)
     else (if m2 == 2 then asked (cache_of names []) (calls.Del block)
-    else command_of names (vars_read block)))
+    else command_block_ask names (vars_read block)))
 
 -- the values of modifier2 that ask a cache
 abbrev pub IsCacheModifier : ℕ → Type 0

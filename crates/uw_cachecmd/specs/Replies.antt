@@ -42,8 +42,8 @@ refusal_text faults.BadNumber = codes "bad number"
 refusal_text faults.Memory = []
 
 -- the reply to a refused command: for modifier2 0 no bytes
-abbrev pub fault_text : ℕ → CmdFault → List ℕ
-fault_text m2 fault = if m2 == 0 then [] else refusal_text fault
+abbrev pub refusal_reply : ℕ → CmdFault → List ℕ
+refusal_reply m2 fault = if m2 == 0 then [] else refusal_text fault
 
 -- a fault that has a reply
 abbrev pub HasReply : CmdFault → Type 0

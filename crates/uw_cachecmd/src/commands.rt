@@ -4,8 +4,8 @@ ghost use Rattle.std.specs.List.{position_from};
 ghost use Rattle.std.specs.Str.{bytes_eq};
 ghost use Rattle.uw_model.specs.declared.calls.Call.TheVariants as calls;
 ghost use Rattle.uw_packet.specs.Blocks.{array_of, array_read, vars_read};
-ghost use Rattle.uw_cachecmd.specs.Answers.{Answers, AsksOneOf};
-ghost use Rattle.uw_cachecmd.specs.Commands.{IsCacheModifier, amount_of, ask_of, asked, cache_of, call_of, command_of, kind_of, seconds_of, set_of};
+ghost use Rattle.uw_cachecmd.specs.Given.{GivesAsk, AsksOneOf};
+ghost use Rattle.uw_cachecmd.specs.Commands.{IsCacheModifier, amount_of, ask_of, asked, cache_of, call_of, command_block_ask, kind_of, seconds_of, set_of};
 
 use std::alloc::Global;
 use uw_base::{Bytes, BytesList, Memory, Vars, read_decimal, read_signed};
@@ -59,7 +59,7 @@ pub fn command(alloc: Global, m2: u8, block: &[u8], names: &BytesList) -> Result
     requires built { IsCacheModifier m2 }
     requires short { length block.now < 2 ^ 32 }
     requires few { length names.now < 2 ^ 32 }
-    ensures ask { Answers result (ask_of m2 block.now names.now) }
+    ensures ask { GivesAsk result (ask_of m2 block.now names.now) }
     ensures known { AsksOneOf (length names.now) result }
 {
     let names = names.as_slice();
@@ -73,7 +73,7 @@ pub fn command(alloc: Global, m2: u8, block: &[u8], names: &BytesList) -> Result
 
 fn get(alloc: Global, block: &[u8], names: &[Bytes]) -> Result<Ask, CmdFault>
     requires { length names.now < 2 ^ 32 }
-    ensures ask { Answers result (asked (cache_of names.now []) (calls.Get block.now)) }
+    ensures ask { GivesAsk result (asked (cache_of names.now []) (calls.Get block.now)) }
     ensures known { AsksOneOf (length names.now) result }
 {
     let Some(cache) = cache_named(names, &[]) else {
@@ -88,7 +88,7 @@ fn get(alloc: Global, block: &[u8], names: &[Bytes]) -> Result<Ask, CmdFault>
 
 fn del(alloc: Global, block: &[u8], names: &[Bytes]) -> Result<Ask, CmdFault>
     requires { length names.now < 2 ^ 32 }
-    ensures ask { Answers result (asked (cache_of names.now []) (calls.Del block.now)) }
+    ensures ask { GivesAsk result (asked (cache_of names.now []) (calls.Del block.now)) }
     ensures known { AsksOneOf (length names.now) result }
 {
     let Some(cache) = cache_named(names, &[]) else {
@@ -105,7 +105,7 @@ fn del(alloc: Global, block: &[u8], names: &[Bytes]) -> Result<Ask, CmdFault>
 fn set(alloc: Global, block: &[u8], names: &[Bytes]) -> Result<Ask, CmdFault>
     requires short { length block.now < 2 ^ 32 }
     requires few { length names.now < 2 ^ 32 }
-    ensures ask { Answers result (set_of names.now block.now (array_read block.now)) }
+    ensures ask { GivesAsk result (set_of names.now block.now (array_read block.now)) }
     ensures known { AsksOneOf (length names.now) result }
 {
     let texts = match read_array(alloc, block) {
@@ -202,7 +202,7 @@ fn seconds(text: &[u8]) -> Option<u64>
 fn command_block(alloc: Global, block: &[u8], names: &[Bytes]) -> Result<Ask, CmdFault>
     requires short { length block.now < 2 ^ 32 }
     requires few { length names.now < 2 ^ 32 }
-    ensures ask { Answers result (command_of names.now (vars_read block.now)) }
+    ensures ask { GivesAsk result (command_block_ask names.now (vars_read block.now)) }
     ensures known { AsksOneOf (length names.now) result }
 {
     match read_vars(alloc, block) {
@@ -215,7 +215,7 @@ fn command_block(alloc: Global, block: &[u8], names: &[Bytes]) -> Result<Ask, Cm
 // What the variables of a command block ask. Other variables are passed over.
 fn commanded(alloc: Global, vars: &Vars, names: &[Bytes]) -> Result<Ask, CmdFault>
     requires { length names.now < 2 ^ 32 }
-    ensures ask { Answers result (command_of names.now (Ok vars.now)) }
+    ensures ask { GivesAsk result (command_block_ask names.now (Ok vars.now)) }
     ensures known { AsksOneOf (length names.now) result }
 {
     let Some(kind) = kind_named(vars.get(b"cmd")) else {

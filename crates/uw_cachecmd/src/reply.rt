@@ -2,7 +2,7 @@
 ghost use Rattle.std.specs.Prelude.{◌≡◌, ◌++◌, ◌∷◌, List, ℕ, codes, IfOk};
 ghost use Rattle.std.specs.Fmt.{signed_decimal};
 ghost use Rattle.uw_packet.specs.Blocks.{array_of};
-ghost use Rattle.uw_cachecmd.specs.Replies.{reply_text, answer_text, value_text, fault_text, HasReply};
+ghost use Rattle.uw_cachecmd.specs.Replies.{reply_text, answer_text, value_text, refusal_reply, HasReply};
 
 use crate::CmdFault;
 use byteorder::{ByteOrder, LittleEndian};
@@ -25,7 +25,7 @@ pub fn cache_reply(alloc: Global, m2: u8, answer: &Answer) -> Result<Bytes, Memo
 /// The bytes that answer a refused command: none for modifier2 0. Faults without a reply are barred.
 pub fn fault_reply(alloc: Global, m2: u8, fault: &CmdFault) -> Result<Bytes, Memory>
     requires { HasReply fault.now }
-    ensures { IfOk result (λ reply. reply ≡ fault_text m2 fault.now) }
+    ensures { IfOk result (λ reply. reply ≡ refusal_reply m2 fault.now) }
 {
     if m2 == 0 {
         return Ok(Bytes::new(alloc));

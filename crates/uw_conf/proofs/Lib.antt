@@ -3,3 +3,6 @@ pub mod SizeLemmas
 pub mod SoundLemmas
 pub mod ReadingLemmas
 pub mod OptionLemmas
+pub mod RefusalLemmas
+pub mod OtherSectionLemmas
+pub mod LastLineLemmas

@@ -1,11 +1,12 @@
 -- What each option keeps: the limits of the caches, and of the other numbers.
-use Rattle.std.proofs.Common.{ℕ, ◌==◌, ◌≤◌, ◌||◌, List, length, arith, Option, Some, None, Result, Ok, Err, IfOk, IfSome, codes}
-use Rattle.std.specs.Str.{bytes_eq}
+use Rattle.std.proofs.Common.{◌≡◌, refl, ℕ, ◌==◌, ◌≤◌, List, length, arith, Option, Some, None, Result, Ok, Err, IfOk, IfSome}
 use Rattle.uw_model.specs.declared.conf.CacheConf.{CacheConf}
 use Rattle.uw_conf.specs.declared.conf.Conf.{Conf}
 use Rattle.uw_conf.specs.declared.conf.ConfKind.{ConfKind}
+use Rattle.uw_conf.specs.declared.options.OptionKind.{OptionKind}
+use Rattle.uw_conf.specs.declared.options.OptionKind.TheVariants as of
 use Rattle.uw_conf.specs.Caches.{number_in, with_cache}
-use Rattle.uw_conf.specs.Configuration.{blank_conf, set_number, set_caches, is_passed_over, with_option}
+use Rattle.uw_conf.specs.Configuration.{blank_conf, option_kind, set_number, set_caches, set_option, with_option}
 use Rattle.uw_conf.specs.Sound.{AreCaches, HasLimits}
 use Rattle.uw_conf.proofs.SoundLemmas.{with_cache_keeps, number_in_some}
 use Rattle.uw_conf.proofs.ReadingLemmas.{ok_if}
@@ -23,22 +24,30 @@ caches_keep : (conf : Conf) (r : Result (List CacheConf) ConfKind) → IfOk r Ar
 caches_keep conf (Err kind) h = tt
 caches_keep conf (Ok caches) h = h
 
+-- an option keeps what it keeps whatever it is
+by_kind : (P : Conf → Type 0) (conf : Conf) (name value : List ℕ) → ((kind : OptionKind) → IfOk (set_option conf kind value) P) → IfOk (with_option conf name value) P
+by_kind P conf name value each = known (option_kind name) refl
+  where
+    known : (kind : Option OptionKind) → option_kind name ≡ kind → IfOk (with_option conf name value) P
+    known None e = rw e tt
+    known (Some kind) e = rw e (each kind)
+
+caches_set : (conf : Conf) (value : List ℕ) → HasCaches conf → (kind : OptionKind) → IfOk (set_option conf kind value) HasCaches
+caches_set conf value h of.BufferSize = number_keeps HasCaches 1 65535 (number_in 1 65535 value) (λ n. record conf { buffer_size = n }) (number_in_some 1 65535 value) (λ n limits. h)
+caches_set conf value h of.Workers = number_keeps HasCaches 1 64 (number_in 1 64 value) (λ n. record conf { workers = n }) (number_in_some 1 64 value) (λ n limits. h)
+caches_set conf value h of.Harakiri = number_keeps HasCaches 0 86400 (number_in 0 86400 value) (λ n. record conf { harakiri = n }) (number_in_some 0 86400 value) (λ n limits. h)
+caches_set conf value h of.ExpireFreq = number_keeps HasCaches 1 3600 (number_in 1 3600 value) (λ n. record conf { expire_freq = n }) (number_in_some 1 3600 value) (λ n limits. h)
+caches_set conf value h of.Spoolers = number_keeps HasCaches 1 16 (number_in 1 16 value) (λ n. record conf { spoolers = n }) (number_in_some 1 16 value) (λ n limits. h)
+caches_set conf value h of.SpoolFreq = number_keeps HasCaches 1 3600 (number_in 1 3600 value) (λ n. record conf { spool_freq = n }) (number_in_some 1 3600 value) (λ n limits. h)
+caches_set conf value h of.Socket = ok_if HasCaches (length value == 0) _ _ tt h
+caches_set conf value h of.Cache = caches_keep conf (with_cache conf.caches value) (with_cache_keeps conf.caches value h)
+caches_set conf value h of.NoEffect = h
+
 pub caches_kept : (conf : Conf) (name value : List ℕ) → HasCaches conf → IfOk (with_option conf name value) HasCaches
-caches_kept conf name value h =
-    let number = λ (low high : ℕ) (set : ℕ → Conf) (each : (n : ℕ) → (low ≤ n) × (n ≤ high) → HasCaches (set n)).
-    number_keeps HasCaches low high (number_in low high value) set (number_in_some low high value) each in
-    ok_if HasCaches (bytes_eq name (codes "buffer-size")) _ _ (number 1 65535 (λ n. record conf { buffer_size = n }) (λ n limits. h))
-    (ok_if HasCaches (bytes_eq name (codes "workers") || bytes_eq name (codes "processes")) _ _ (number 1 64 (λ n. record conf { workers = n }) (λ n limits. h))
-    (ok_if HasCaches (bytes_eq name (codes "harakiri")) _ _ (number 0 86400 (λ n. record conf { harakiri = n }) (λ n limits. h))
-    (ok_if HasCaches (bytes_eq name (codes "cache-expire-freq")) _ _ (number 1 3600 (λ n. record conf { expire_freq = n }) (λ n limits. h))
-    (ok_if HasCaches (bytes_eq name (codes "spooler-processes")) _ _ (number 1 16 (λ n. record conf { spoolers = n }) (λ n limits. h))
-    (ok_if HasCaches (bytes_eq name (codes "spooler-frequency")) _ _ (number 1 3600 (λ n. record conf { spool_freq = n }) (λ n limits. h))
-    (ok_if HasCaches (bytes_eq name (codes "socket")) _ _ (ok_if HasCaches (length value == 0) _ _ tt h)
-    (ok_if HasCaches (bytes_eq name (codes "cache2")) _ _ (caches_keep conf (with_cache conf.caches value) (with_cache_keeps conf.caches value h))
-    (ok_if HasCaches (is_passed_over name) _ _ h tt))))))))
+caches_kept conf name value h = by_kind HasCaches conf name value (caches_set conf value h)
 
 pub no_caches : HasCaches blank_conf
-no_caches = record { each = tt; few = omega arith; small = omega arith }
+no_caches = record { each = tt; few = omega arith; names = tt; small = omega arith }
 
 -- other fields than the numbers
 limits_keep : (conf : Conf) (r : Result (List CacheConf) ConfKind) → HasLimits conf → IfOk (set_caches conf r) HasLimits
@@ -46,33 +55,31 @@ limits_keep conf (Err kind) h = tt
 limits_keep conf (Ok caches) h =
     record { buffer_size = h.buffer_size; workers = h.workers; harakiri = h.harakiri; expire_freq = h.expire_freq; spoolers = h.spoolers; spool_freq = h.spool_freq }
 
+limits_set : (conf : Conf) (value : List ℕ) → HasLimits conf → (kind : OptionKind) → IfOk (set_option conf kind value) HasLimits
+limits_set conf value h of.BufferSize =
+    number_keeps HasLimits 1 65535 (number_in 1 65535 value) (λ n. record conf { buffer_size = n }) (number_in_some 1 65535 value) (λ n limits.
+    record { buffer_size = limits; workers = h.workers; harakiri = h.harakiri; expire_freq = h.expire_freq; spoolers = h.spoolers; spool_freq = h.spool_freq })
+limits_set conf value h of.Workers =
+    number_keeps HasLimits 1 64 (number_in 1 64 value) (λ n. record conf { workers = n }) (number_in_some 1 64 value) (λ n limits.
+    record { buffer_size = h.buffer_size; workers = limits; harakiri = h.harakiri; expire_freq = h.expire_freq; spoolers = h.spoolers; spool_freq = h.spool_freq })
+limits_set conf value h of.Harakiri =
+    number_keeps HasLimits 0 86400 (number_in 0 86400 value) (λ n. record conf { harakiri = n }) (number_in_some 0 86400 value) (λ n limits.
+    record { buffer_size = h.buffer_size; workers = h.workers; harakiri = limits.1; expire_freq = h.expire_freq; spoolers = h.spoolers; spool_freq = h.spool_freq })
+limits_set conf value h of.ExpireFreq =
+    number_keeps HasLimits 1 3600 (number_in 1 3600 value) (λ n. record conf { expire_freq = n }) (number_in_some 1 3600 value) (λ n limits.
+    record { buffer_size = h.buffer_size; workers = h.workers; harakiri = h.harakiri; expire_freq = limits; spoolers = h.spoolers; spool_freq = h.spool_freq })
+limits_set conf value h of.Spoolers =
+    number_keeps HasLimits 1 16 (number_in 1 16 value) (λ n. record conf { spoolers = n }) (number_in_some 1 16 value) (λ n limits.
+    record { buffer_size = h.buffer_size; workers = h.workers; harakiri = h.harakiri; expire_freq = h.expire_freq; spoolers = limits; spool_freq = h.spool_freq })
+limits_set conf value h of.SpoolFreq =
+    number_keeps HasLimits 1 3600 (number_in 1 3600 value) (λ n. record conf { spool_freq = n }) (number_in_some 1 3600 value) (λ n limits.
+    record { buffer_size = h.buffer_size; workers = h.workers; harakiri = h.harakiri; expire_freq = h.expire_freq; spoolers = h.spoolers; spool_freq = limits })
+limits_set conf value h of.Socket = ok_if HasLimits (length value == 0) _ _ tt (record { buffer_size = h.buffer_size; workers = h.workers; harakiri = h.harakiri; expire_freq = h.expire_freq; spoolers = h.spoolers; spool_freq = h.spool_freq })
+limits_set conf value h of.Cache = limits_keep conf (with_cache conf.caches value) h
+limits_set conf value h of.NoEffect = h
+
 pub limits_kept : (conf : Conf) (name value : List ℕ) → HasLimits conf → IfOk (with_option conf name value) HasLimits
-limits_kept conf name value h =
-    let number = λ (low high : ℕ) (set : ℕ → Conf) (each : (n : ℕ) → (low ≤ n) × (n ≤ high) → HasLimits (set n)).
-    number_keeps HasLimits low high (number_in low high value) set (number_in_some low high value) each in
-    ok_if HasLimits (bytes_eq name (codes "buffer-size")) _ _
-    (number 1 65535 (λ n. record conf { buffer_size = n })
-    (λ n limits. record { buffer_size = limits; workers = h.workers; harakiri = h.harakiri; expire_freq = h.expire_freq; spoolers = h.spoolers; spool_freq = h.spool_freq }))
-    (ok_if HasLimits (bytes_eq name (codes "workers") || bytes_eq name (codes "processes")) _ _
-    (number 1 64 (λ n. record conf { workers = n })
-    (λ n limits. record { buffer_size = h.buffer_size; workers = limits; harakiri = h.harakiri; expire_freq = h.expire_freq; spoolers = h.spoolers; spool_freq = h.spool_freq }))
-    (ok_if HasLimits (bytes_eq name (codes "harakiri")) _ _
-    (number 0 86400 (λ n. record conf { harakiri = n })
-    (λ n limits. record { buffer_size = h.buffer_size; workers = h.workers; harakiri = limits.1; expire_freq = h.expire_freq; spoolers = h.spoolers; spool_freq = h.spool_freq }))
-    (ok_if HasLimits (bytes_eq name (codes "cache-expire-freq")) _ _
-    (number 1 3600 (λ n. record conf { expire_freq = n })
-    (λ n limits. record { buffer_size = h.buffer_size; workers = h.workers; harakiri = h.harakiri; expire_freq = limits; spoolers = h.spoolers; spool_freq = h.spool_freq }))
-    (ok_if HasLimits (bytes_eq name (codes "spooler-processes")) _ _
-    (number 1 16 (λ n. record conf { spoolers = n })
-    (λ n limits. record { buffer_size = h.buffer_size; workers = h.workers; harakiri = h.harakiri; expire_freq = h.expire_freq; spoolers = limits; spool_freq = h.spool_freq }))
-    (ok_if HasLimits (bytes_eq name (codes "spooler-frequency")) _ _
-    (number 1 3600 (λ n. record conf { spool_freq = n })
-    (λ n limits. record { buffer_size = h.buffer_size; workers = h.workers; harakiri = h.harakiri; expire_freq = h.expire_freq; spoolers = h.spoolers; spool_freq = limits }))
-    (ok_if HasLimits (bytes_eq name (codes "socket")) _ _
-    (ok_if HasLimits (length value == 0) _ _ tt
-    (record { buffer_size = h.buffer_size; workers = h.workers; harakiri = h.harakiri; expire_freq = h.expire_freq; spoolers = h.spoolers; spool_freq = h.spool_freq }))
-    (ok_if HasLimits (bytes_eq name (codes "cache2")) _ _ (limits_keep conf (with_cache conf.caches value) h)
-    (ok_if HasLimits (is_passed_over name) _ _ h tt))))))))
+limits_kept conf name value h = by_kind HasLimits conf name value (limits_set conf value h)
 
 pub blank_limits : HasLimits blank_conf
 blank_limits = record {

@@ -1,7 +1,10 @@
 -- The numbers of each draft, of each cache and of all caches of a text lie within their limits.
-use Rattle.std.proofs.Common.{◌≡◌, ℕ, ◌%◌, ◌<◌, ◌≤◌, min, Bool, true, false, ◌==◌, ◌&&◌, ◌||◌, if◌then◌else◌, List, [], ◌∷◌, ◌++◌, length, refl, arith, Option, Some, None, Result, IfOk, IfSome, nat_le, nat_lt, unwrap_or, codes}
+use Rattle.std.proofs.Common.{◌≢◌, sym, ◌≡◌, ℕ, ◌%◌, ◌<◌, ◌≤◌, min, Bool, true, false, ◌==◌, ◌&&◌, ◌||◌, if◌then◌else◌, List, [], ◌∷◌, ◌++◌, length, refl, arith, Option, Some, None, Result, IfOk, IfSome, nat_le, nat_lt, unwrap_or, codes}
 use Rattle.std.proofs.lemmas.Bool.Decides.{nat_tests}
+use Rattle.std.proofs.lemmas.Bool.{both_ways, or_parts}
 use Rattle.std.proofs.lemmas.List.{length_push}
+use Rattle.std.proofs.lemmas.Slice.Eq.{bytes_eq-Decides}
+use Rattle.std.specs.List.{AllByRecursion}
 use Rattle.std.specs.Int.{next_multiple_of}
 use Rattle.std.specs.List.{list_any, slice_split, before_first, after_first}
 use Rattle.std.specs.Str.{bytes_eq}
@@ -9,8 +12,9 @@ use Rattle.uw_model.specs.declared.conf.CacheConf.{CacheConf}
 use Rattle.uw_model.specs.Entries.{IsCacheConf}
 use Rattle.uw_base.specs.Numbers.{decimal_of}
 use Rattle.uw_conf.specs.declared.conf.ConfKind.{ConfKind}
-use Rattle.uw_conf.specs.Caches.{Draft, blank_draft, spoiled, added, completed, with_cache, number_in, flag_of, put, with_key, with_pair, with_pairs, draft_of, conf_of, region_bytes, most_region_bytes}
-use Rattle.uw_conf.specs.Sound.{IsDraft, AreCaches}
+use Rattle.uw_conf.specs.Caches.{Draft, blank_draft, spoiled, with_cache_conf, with_draft, with_cache, number_in, flag_of, put, with_key, with_pair, with_pairs, draft_of, conf_of, region_bytes, most_region_bytes}
+use Rattle.uw_conf.specs.Sound.{AreCaches, HaveOwnNames}
+use Rattle.uw_conf.specs.ReadingSteps.{IsDraft}
 use Rattle.uw_conf.proofs.SizeLemmas.{AllByRecursion-push}
 
 -- a choice of two drafts that are within their limits
@@ -114,13 +118,27 @@ kept_if false x y h k = k refl
 not_above : (a b : ℕ) → nat_lt a b ≡ false → b ≤ a
 not_above a b h = grind (arith, nat_tests)
 
-added_keeps : (caches : List CacheConf) (conf : CacheConf) → AreCaches caches → length caches < 16 → IsCacheConf conf → AreKept (added caches conf)
+-- a name that no cache has is each cache's other name
+other_names : (caches : List CacheConf) (name : List ℕ) → list_any (λ (earlier : CacheConf). bytes_eq earlier.name name) caches ≡ false → AllByRecursion (λ (other : CacheConf). other.name ≢ name) caches
+other_names [] name none = tt
+other_names (c ∷ caches) name none =
+    let here = or_parts (bytes_eq c.name name) (list_any (λ (earlier : CacheConf). bytes_eq earlier.name name) caches) none in
+    (λ same. both_ways (bytes_eq c.name name) here.0 ((bytes_eq-Decides c.name name).1 same), other_names caches name here.1)
+
+-- a cache of another name behind caches that have names of their own
+own_names_push : (caches : List CacheConf) (conf : CacheConf) → HaveOwnNames caches → AllByRecursion (λ (other : CacheConf). other.name ≢ conf.name) caches → HaveOwnNames (caches ++ conf ∷ [])
+own_names_push [] conf own others = (tt, tt)
+own_names_push (c ∷ caches) conf own others =
+    (AllByRecursion-push (λ (other : CacheConf). other.name ≢ c.name) caches conf own.0 (λ same. others.0 (sym same)), own_names_push caches conf own.1 others.1)
+
+added_keeps : (caches : List CacheConf) (conf : CacheConf) → AreCaches caches → length caches < 16 → IsCacheConf conf → AreKept (with_cache_conf caches conf)
 added_keeps caches conf h few here =
     kept_if (list_any (λ (earlier : CacheConf). bytes_eq earlier.name conf.name) caches) _ _ tt
-    (λ _. kept_if (nat_lt most_region_bytes (region_bytes (caches ++ conf ∷ []))) _ _ tt
+    (λ new. kept_if (nat_lt most_region_bytes (region_bytes (caches ++ conf ∷ []))) _ _ tt
     (λ small. record {
       each = AllByRecursion-push IsCacheConf caches conf h.each here;
       few = omega (arith, length_push caches conf);
+      names = own_names_push caches conf h.names (other_names caches conf.name new);
       small = not_above most_region_bytes (region_bytes (caches ++ conf ∷ [])) small;
     }))
 
@@ -145,7 +163,7 @@ conf_of_keeps draft name items h limits = record {
   no_bitmap = (chosen_blocks draft.bitmap draft.blocks items h.blocks limits).1;
 }
 
-completed_keeps : (caches : List CacheConf) (draft : Draft) (name : Option (List ℕ)) (items : Option ℕ) → AreCaches caches → length caches < 16 → IsDraft draft → IfSome items (λ n. (1 ≤ n) × (n ≤ 1048576)) → AreKept (completed caches draft name items)
+completed_keeps : (caches : List CacheConf) (draft : Draft) (name : Option (List ℕ)) (items : Option ℕ) → AreCaches caches → length caches < 16 → IsDraft draft → IfSome items (λ n. (1 ≤ n) × (n ≤ 1048576)) → AreKept (with_draft caches draft name items)
 completed_keeps caches draft None items h few d limits = tt
 completed_keeps caches draft (Some name) None h few d limits = tt
 completed_keeps caches draft (Some name) (Some items) h few d limits = added_keeps caches (conf_of draft name items) h few (conf_of_keeps draft name items d limits)

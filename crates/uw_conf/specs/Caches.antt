@@ -41,6 +41,7 @@ blank_draft = record {
   bad = false;
 }
 
+-- a draft with a bad value
 abbrev pub spoiled : Draft → Draft
 spoiled draft = record draft { bad = true }
 
@@ -86,6 +87,7 @@ with_pair draft pair =
     if list_any (λ byte. byte == 61) pair then with_key draft (before_first (λ byte. byte == 61) pair) (after_first (λ byte. byte == 61) pair)
     else spoiled draft
 
+-- pairs, one after the other
 abbrev pub with_pairs : Draft → List (List ℕ) → Draft
 with_pairs draft [] = draft
 with_pairs draft (pair ∷ pairs) = with_pairs (with_pair draft pair) pairs
@@ -113,24 +115,26 @@ conf_of draft name items = record {
 abbrev pub most_region_bytes : ℕ
 most_region_bytes = 1073741824
 
+-- the bytes of all regions, eight for each word
 abbrev pub region_bytes : List CacheConf → ℕ
 region_bytes caches = sum_by (λ conf. 8 * region_words conf) caches
 
 -- a cache behind the earlier ones: a name that an earlier one has comes before regions that are too large
-abbrev pub added : List CacheConf → CacheConf → Result (List CacheConf) ConfKind
-added caches conf =
+abbrev pub with_cache_conf : List CacheConf → CacheConf → Result (List CacheConf) ConfKind
+with_cache_conf caches conf =
     if list_any (λ (earlier : CacheConf). bytes_eq earlier.name conf.name) caches then Err kinds.NameTwice
     else (if nat_lt most_region_bytes (region_bytes (caches ++ conf ∷ [])) then Err (kinds.TooLarge (region_bytes (caches ++ conf ∷ [])) most_region_bytes)
     else Ok (caches ++ conf ∷ []))
 
-abbrev pub completed : List CacheConf → Draft → Option (List ℕ) → Option ℕ → Result (List CacheConf) ConfKind
-completed caches draft None items = Err kinds.Missing
-completed caches draft (Some name) None = Err kinds.Missing
-completed caches draft (Some name) (Some items) = added caches (conf_of draft name items)
+-- the cache of a draft behind the earlier ones; a draft without a name or a number of items is none
+abbrev pub with_draft : List CacheConf → Draft → Option (List ℕ) → Option ℕ → Result (List CacheConf) ConfKind
+with_draft caches draft None items = Err kinds.Missing
+with_draft caches draft (Some name) None = Err kinds.Missing
+with_draft caches draft (Some name) (Some items) = with_cache_conf caches (conf_of draft name items)
 
 -- the caches with that of a line, the 17th of which is a bad value; all its pairs are looked at, and an unknown key comes before a bad value
 abbrev pub with_cache : List CacheConf → List ℕ → Result (List CacheConf) ConfKind
 with_cache caches text =
     if (draft_of text).unknown then Err kinds.UnknownOption
     else (if (draft_of text).bad || nat_le 16 (length caches) then Err kinds.BadValue
-    else completed caches (draft_of text) (draft_of text).name (draft_of text).items)
+    else with_draft caches (draft_of text) (draft_of text).name (draft_of text).items)

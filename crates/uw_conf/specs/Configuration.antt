@@ -9,14 +9,17 @@ use Rattle.uw_conf.specs.declared.conf.Conf.{Conf}
 use Rattle.uw_conf.specs.declared.conf.ConfFault.{ConfFault}
 use Rattle.uw_conf.specs.declared.conf.ConfKind.{ConfKind}
 use Rattle.uw_conf.specs.declared.conf.ConfKind.TheVariants as kinds
+use Rattle.uw_conf.specs.declared.options.OptionKind.{OptionKind}
+use Rattle.uw_conf.specs.declared.options.OptionKind.TheVariants as of
 use Rattle.uw_conf.specs.Lines.{Line, nothing, section, option, broken, line_of, trimmed}
 use Rattle.uw_conf.specs.Caches.{number_in, with_cache}
 
 -- where a reading stands: before any section (None), in the section `uwsgi`, or in another; and what it has read
-pub record Reading : Type 0 where
+pub record ReadSoFar : Type 0 where
   pub inside : Option Bool
   pub conf : Conf
 
+-- what an empty text says: the defaults
 abbrev pub blank_conf : Conf
 blank_conf = record {
   buffer_size = 4096;
@@ -36,69 +39,94 @@ is_passed_over name = list_any (bytes_eq name)
     ∷ codes "chmod-socket" ∷ codes "chown-socket" ∷ codes "uid" ∷ codes "gid" ∷ codes "chdir" ∷ codes "pidfile" ∷ codes "threads" ∷ codes "enable-threads" ∷ codes "listen"
     ∷ codes "thunder-lock" ∷ [])
 
+-- the option of a name
+abbrev pub option_kind : List ℕ → Option OptionKind
+option_kind name =
+    if bytes_eq name (codes "buffer-size") then Some of.BufferSize
+    else (if bytes_eq name (codes "workers") || bytes_eq name (codes "processes") then Some of.Workers
+    else (if bytes_eq name (codes "harakiri") then Some of.Harakiri
+    else (if bytes_eq name (codes "cache-expire-freq") then Some of.ExpireFreq
+    else (if bytes_eq name (codes "spooler-processes") then Some of.Spoolers
+    else (if bytes_eq name (codes "spooler-frequency") then Some of.SpoolFreq
+    else (if bytes_eq name (codes "socket") then Some of.Socket
+    else (if bytes_eq name (codes "cache2") then Some of.Cache
+    else (if is_passed_over name then Some of.NoEffect else None))))))))
+
 -- a number within its limits, or a bad value
 abbrev pub set_number : Option ℕ → (ℕ → Conf) → Result Conf ConfKind
 set_number None set = Err kinds.BadValue
 set_number (Some number) set = Ok (set number)
 
+-- the caches of a line, or why the line is refused
 abbrev pub set_caches : Conf → Result (List CacheConf) ConfKind → Result Conf ConfKind
 set_caches conf (Err kind) = Err kind
 set_caches conf (Ok caches) = Ok (record conf { caches = caches })
 
--- one option
-abbrev pub with_option : Conf → List ℕ → List ℕ → Result Conf ConfKind
-with_option conf name value =
-    if bytes_eq name (codes "buffer-size") then set_number (number_in 1 65535 value) (λ n. record conf { buffer_size = n })
-    else (if bytes_eq name (codes "workers") || bytes_eq name (codes "processes") then set_number (number_in 1 64 value) (λ n. record conf { workers = n })
-    else (if bytes_eq name (codes "harakiri") then set_number (number_in 0 86400 value) (λ n. record conf { harakiri = n })
-    else (if bytes_eq name (codes "cache-expire-freq") then set_number (number_in 1 3600 value) (λ n. record conf { expire_freq = n })
-    else (if bytes_eq name (codes "spooler-processes") then set_number (number_in 1 16 value) (λ n. record conf { spoolers = n })
-    else (if bytes_eq name (codes "spooler-frequency") then set_number (number_in 1 3600 value) (λ n. record conf { spool_freq = n })
-    else (if bytes_eq name (codes "socket") then (if length value == 0 then Err kinds.BadValue else Ok (record conf { socket = value }))
-    else (if bytes_eq name (codes "cache2") then set_caches conf (with_cache conf.caches value)
-    else (if is_passed_over name then Ok conf else Err kinds.UnknownOption))))))))
+-- an option with its value
+abbrev pub set_option : Conf → OptionKind → List ℕ → Result Conf ConfKind
+set_option conf of.BufferSize value = set_number (number_in 1 65535 value) (λ n. record conf { buffer_size = n })
+set_option conf of.Workers value = set_number (number_in 1 64 value) (λ n. record conf { workers = n })
+set_option conf of.Harakiri value = set_number (number_in 0 86400 value) (λ n. record conf { harakiri = n })
+set_option conf of.ExpireFreq value = set_number (number_in 1 3600 value) (λ n. record conf { expire_freq = n })
+set_option conf of.Spoolers value = set_number (number_in 1 16 value) (λ n. record conf { spoolers = n })
+set_option conf of.SpoolFreq value = set_number (number_in 1 3600 value) (λ n. record conf { spool_freq = n })
+set_option conf of.Socket value = if length value == 0 then Err kinds.BadValue else Ok (record conf { socket = value })
+set_option conf of.Cache value = set_caches conf (with_cache conf.caches value)
+set_option conf of.NoEffect value = Ok conf
 
-abbrev pub kept_in : Reading → Result Conf ConfKind → Result Reading ConfKind
-kept_in r (Err kind) = Err kind
-kept_in r (Ok conf) = Ok (record r { conf = conf })
+-- one option: its name is known, or the line is refused
+abbrev pub with_option : Conf → List ℕ → List ℕ → Result Conf ConfKind
+with_option conf name value = if_known (option_kind name) conf value
+  where
+    if_known : Option OptionKind → Conf → List ℕ → Result Conf ConfKind
+    if_known None conf value = Err kinds.UnknownOption
+    if_known (Some kind) conf value = set_option conf kind value
+
+-- a reading after an option, or why the option is refused
+abbrev pub with_conf : ReadSoFar → Result Conf ConfKind → Result ReadSoFar ConfKind
+with_conf r (Err kind) = Err kind
+with_conf r (Ok conf) = Ok (record r { conf = conf })
 
 -- an option in its section; one before any section is a bad line, and one of another section is passed over
-abbrev pub optioned : Reading → Option Bool → List ℕ → List ℕ → Result Reading ConfKind
-optioned r None name value = Err kinds.BadLine
-optioned r (Some false) name value = Ok r
-optioned r (Some true) name value = kept_in r (with_option r.conf name value)
+abbrev pub with_setting : ReadSoFar → Option Bool → List ℕ → List ℕ → Result ReadSoFar ConfKind
+with_setting r None name value = Err kinds.BadLine
+with_setting r (Some false) name value = Ok r
+with_setting r (Some true) name value = with_conf r (with_option r.conf name value)
 
 -- a line that is nothing known is bad, but in another section
-abbrev pub unread : Reading → Option Bool → Result Reading ConfKind
-unread r None = Err kinds.BadLine
-unread r (Some false) = Ok r
-unread r (Some true) = Err kinds.BadLine
+abbrev pub with_broken_line : ReadSoFar → Option Bool → Result ReadSoFar ConfKind
+with_broken_line r None = Err kinds.BadLine
+with_broken_line r (Some false) = Ok r
+with_broken_line r (Some true) = Err kinds.BadLine
 
-abbrev pub with_line : Reading → Line → Result Reading ConfKind
+-- a line that was told what it is
+abbrev pub with_line : ReadSoFar → Line → Result ReadSoFar ConfKind
 with_line r nothing = Ok r
 with_line r (section name) = Ok (record r { inside = Some (bytes_eq name (codes "uwsgi")) })
-with_line r (option name value) = optioned r r.inside name value
-with_line r broken = unread r r.inside
+with_line r (option name value) = with_setting r r.inside name value
+with_line r broken = with_broken_line r r.inside
 
 -- a line that is no text of UTF-8 is bad, wherever it stands
-abbrev pub read_line : Reading → List ℕ → Result Reading ConfKind
+abbrev pub read_line : ReadSoFar → List ℕ → Result ReadSoFar ConfKind
 read_line r line = if utf8_valid_len line == length line then with_line r (line_of (trimmed line)) else Err kinds.BadLine
 
+-- the refusal of a line, with its number
 abbrev pub refused_at : ℕ → ConfKind → ConfFault
 refused_at line kind = record { line = line; kind = kind }
 
 -- a line's refusal, with its number
-abbrev pub at_line : ℕ → Result Reading ConfKind → Result Reading ConfFault
+abbrev pub at_line : ℕ → Result ReadSoFar ConfKind → Result ReadSoFar ConfFault
 at_line number (Ok r) = Ok r
 at_line number (Err kind) = Err (refused_at number kind)
 
 -- the lines from a number on, up to the first that is refused
-abbrev pub read_lines : Result Reading ConfFault → ℕ → List (List ℕ) → Result Reading ConfFault
+abbrev pub read_lines : Result ReadSoFar ConfFault → ℕ → List (List ℕ) → Result ReadSoFar ConfFault
 read_lines (Err fault) number lines = Err fault
 read_lines (Ok r) number [] = Ok r
 read_lines (Ok r) number (line ∷ lines) = read_lines (at_line number (read_line r line)) (number + 1) lines
 
-abbrev pub conf_read : Result Reading ConfFault → Result Conf ConfFault
+-- what a reading has read, without where it stands
+abbrev pub conf_read : Result ReadSoFar ConfFault → Result Conf ConfFault
 conf_read (Err fault) = Err fault
 conf_read (Ok r) = Ok r.conf
 
@@ -106,8 +134,12 @@ conf_read (Ok r) = Ok r.conf
 abbrev pub most_text_bytes : ℕ
 most_text_bytes = 1048576
 
+-- a reading before the first line
+abbrev pub blank_reading : ReadSoFar
+blank_reading = record { inside = None; conf = blank_conf }
+
 -- what a text says, or its first refused line
 abbrev pub configuration_of : List ℕ → Result Conf ConfFault
 configuration_of text =
     if nat_lt most_text_bytes (length text) then Err (refused_at 0 (kinds.TooLarge (length text) most_text_bytes))
-    else conf_read (read_lines (Ok (record { inside = None; conf = blank_conf })) 1 (lines text))
+    else conf_read (read_lines (Ok blank_reading) 1 (lines text))

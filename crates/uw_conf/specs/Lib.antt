@@ -2,7 +2,7 @@ pub mod Lines
 pub mod Sizes
 pub mod Caches
 pub mod Configuration
-pub mod Answers
-pub mod Seen
+pub mod Given
 pub mod Sound
-pub mod Progress
+pub mod ReadingSteps
+pub mod Laws

@@ -4,16 +4,19 @@ use Rattle.std.specs.Int.{div_ceil}
 use Rattle.uw_model.specs.declared.conf.CacheConf.{CacheConf}
 use Rattle.uw_model.specs.Entries.{max_value}
 
--- words of a key, of a block, of the longest value, of the bitmap
+-- words of a key
 abbrev pub key_words : CacheConf → ℕ
 key_words conf = div_ceil conf.keysize 8
 
+-- words of a block
 abbrev pub block_words : CacheConf → ℕ
 block_words conf = conf.blocksize / 8
 
+-- words of the longest value
 abbrev pub value_words : CacheConf → ℕ
 value_words conf = div_ceil (max_value conf) 8
 
+-- words of the bitmap
 abbrev pub bitmap_words : CacheConf → ℕ
 bitmap_words conf = div_ceil conf.blocks 64
 

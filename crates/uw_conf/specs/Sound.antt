@@ -1,24 +1,21 @@
--- What holds of each draft and of the caches of each configuration: every number lies within its limits (own rule).
-use Rattle.std.specs.Prelude.{◌≡◌, ◌%◌, ◌≤◌, List, length, IfSome}
+-- What holds of each configuration: every number lies within its limits (own rule).
+use Rattle.std.specs.Prelude.{◌≢◌, ◌≤◌, List, [], ◌∷◌, length}
 use Rattle.std.specs.List.{AllByRecursion}
 use Rattle.uw_model.specs.declared.conf.CacheConf.{CacheConf}
 use Rattle.uw_model.specs.Entries.{IsCacheConf}
 use Rattle.uw_conf.specs.declared.conf.Conf.{Conf}
-use Rattle.uw_conf.specs.Caches.{Draft, region_bytes, most_region_bytes}
+use Rattle.uw_conf.specs.Caches.{region_bytes, most_region_bytes}
 
--- the numbers of a draft
-pub record IsDraft (draft : Draft) : Type 0 where
-  pub items : IfSome draft.items (λ n. (1 ≤ n) × (n ≤ 1048576))
-  pub blocksize : (8 ≤ draft.blocksize) × (draft.blocksize ≤ 1048576)
-  pub words : draft.blocksize % 8 ≡ 0
-  pub blocks : IfSome draft.blocks (λ n. (1 ≤ n) × (n ≤ 16777216))
-  pub keysize : (1 ≤ draft.keysize) × (draft.keysize ≤ 65535)
-  pub chains : IfSome draft.chains (λ n. (1 ≤ n) × (n ≤ 1048576))
+-- no two caches have one name
+abbrev pub HaveOwnNames : List CacheConf → Type 0
+HaveOwnNames [] = Unit {0}
+HaveOwnNames (conf ∷ caches) = AllByRecursion (λ (other : CacheConf). other.name ≢ conf.name) caches × HaveOwnNames caches
 
--- at most 16 caches, each within its limits, whose regions together are within theirs
+-- at most 16 caches, each within its limits and with a name of its own, whose regions together are within theirs
 pub record AreCaches (caches : List CacheConf) : Type 0 where
   pub each : AllByRecursion IsCacheConf caches
   pub few : length caches ≤ 16
+  pub names : HaveOwnNames caches
   pub small : region_bytes caches ≤ most_region_bytes
 
 -- each number of a configuration lies within its limits

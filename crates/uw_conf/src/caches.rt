@@ -4,10 +4,11 @@ ghost use Rattle.std.specs.List.{list_any};
 ghost use Rattle.std.specs.Str.{bytes_eq};
 ghost use Rattle.uw_model.specs.declared.conf.CacheConf.{CacheConf};
 ghost use Rattle.uw_model.specs.Entries.{IsCacheConf};
-ghost use Rattle.uw_conf.specs.Answers.{Gives};
-ghost use Rattle.uw_conf.specs.Caches.{conf_of, added, completed, with_cache};
-ghost use Rattle.uw_conf.specs.Seen.{draft_seen};
-ghost use Rattle.uw_conf.specs.Sound.{AreCaches, IsDraft};
+ghost use Rattle.uw_conf.specs.ReadingSteps.{GivesValue};
+ghost use Rattle.uw_conf.specs.Caches.{conf_of, with_cache_conf, with_draft, with_cache};
+ghost use Rattle.uw_conf.specs.ReadingSteps.{draft_seen};
+ghost use Rattle.uw_conf.specs.Sound.{AreCaches};
+ghost use Rattle.uw_conf.specs.ReadingSteps.{IsDraft};
 
 use crate::ConfKind;
 use crate::draft::{CacheDraft, draft_of};
@@ -67,10 +68,14 @@ fn has_name(caches: &[CacheConf], name: &[u8]) -> bool
 }
 
 // A cache behind the earlier ones.
-fn added(caches: CacheConfList, conf: CacheConf) -> Result<CacheConfList, Refusal>
+fn with_cache_conf(
+    alloc: Global,
+    caches: CacheConfList,
+    conf: CacheConf,
+) -> Result<CacheConfList, Refusal>
     requires caches { AreCaches caches }
     requires conf { IsCacheConf conf }
-    ensures { Gives result (added caches conf) }
+    ensures { GivesValue result (with_cache_conf caches conf) }
 {
     if has_name(caches.as_slice(), conf.name.as_slice()) {
         return Err(Refusal::Refused(ConfKind::NameTwice));
@@ -83,20 +88,20 @@ fn added(caches: CacheConfList, conf: CacheConf) -> Result<CacheConfList, Refusa
         }));
     }
     let mut caches = caches;
-    caches.push(conf)?;
+    caches.push(alloc, conf)?;
     Ok(caches)
 }
 
 // The cache of a draft, behind the earlier ones.
-fn completed(
+fn with_draft(
     alloc: Global,
     caches: CacheConfList,
     draft: &CacheDraft<'_>,
 ) -> Result<CacheConfList, Refusal>
     requires caches { AreCaches caches }
     requires draft { IsDraft (draft_seen draft.now) }
-    ensures { Gives result
-        (completed caches (draft_seen draft.now) (draft_seen draft.now).name (draft_seen draft.now).items) }
+    ensures { GivesValue result
+        (with_draft caches (draft_seen draft.now) (draft_seen draft.now).name (draft_seen draft.now).items) }
 {
     let Some(name) = draft.name else {
         return Err(Refusal::Refused(ConfKind::Missing));
@@ -105,7 +110,7 @@ fn completed(
         return Err(Refusal::Refused(ConfKind::Missing));
     };
     let conf = conf_of(alloc, draft, name, items)?;
-    added(caches, conf)
+    with_cache_conf(alloc, caches, conf)
 }
 
 /// The caches with that of a line behind them. All its pairs are looked at; the 17th cache is a bad value.
@@ -115,7 +120,7 @@ pub fn with_cache(
     text: &[u8],
 ) -> Result<CacheConfList, Refusal>
     requires { AreCaches caches }
-    ensures { Gives result (with_cache caches text.now) }
+    ensures { GivesValue result (with_cache caches text.now) }
 {
     let draft = draft_of(text);
     if draft.unknown {
@@ -124,5 +129,5 @@ pub fn with_cache(
     if draft.bad || MOST_CACHES <= caches.len() {
         return Err(Refusal::Refused(ConfKind::BadValue));
     }
-    completed(alloc, caches, &draft)
+    with_draft(alloc, caches, &draft)
 }

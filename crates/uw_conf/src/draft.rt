@@ -3,7 +3,7 @@ ghost use Rattle.std.specs.Prelude.{◌≡◌, ◌==◌, if◌then◌else◌, le
 ghost use Rattle.std.specs.Int.{next_multiple_of};
 ghost use Rattle.std.specs.Str.{bytes_eq};
 ghost use Rattle.uw_conf.specs.Caches.{blank_draft, spoiled, number_in, flag_of, put, with_key, with_pair, draft_of};
-ghost use Rattle.uw_conf.specs.Seen.{draft_seen};
+ghost use Rattle.uw_conf.specs.ReadingSteps.{draft_seen};
 
 use crate::texts::{cut, is};
 use crate::values::{flag_of, number_in};

@@ -3,7 +3,7 @@ ghost use Rattle.std.specs.Prelude.{◌≡◌, ◌<◌, ◌==◌, ◌∷◌, [],
 ghost use Rattle.std.specs.Str.Lines.{lines, strip_carriage_return};
 ghost use Rattle.std.specs.Str.Lossy.{utf8_valid_len};
 ghost use Rattle.uw_conf.specs.Lines.{line_of, option_line, parted};
-ghost use Rattle.uw_conf.specs.Seen.{line_seen};
+ghost use Rattle.uw_conf.specs.ReadingSteps.{line_seen};
 
 use crate::texts::{cut, trim_blanks};
 

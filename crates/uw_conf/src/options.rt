@@ -1,8 +1,8 @@
 // The options of the section.
 ghost use Rattle.std.specs.Prelude.{◌≡◌, ◌==◌, if◌then◌else◌, length, Ok, Err};
-ghost use Rattle.uw_conf.specs.Answers.{Gives};
+ghost use Rattle.uw_conf.specs.ReadingSteps.{GivesValue};
 ghost use Rattle.uw_conf.specs.Caches.{number_in, with_cache};
-ghost use Rattle.uw_conf.specs.Configuration.{is_passed_over, set_caches, set_number, with_option};
+ghost use Rattle.uw_conf.specs.Configuration.{is_passed_over, option_kind, set_caches, set_number, set_option, with_option};
 ghost use Rattle.uw_conf.specs.Sound.{AreCaches};
 ghost use Rattle.uw_conf.specs.declared.conf.ConfKind.TheVariants as kinds;
 
@@ -14,8 +14,23 @@ use crate::{Conf, ConfKind};
 use std::alloc::Global;
 use uw_base::Bytes;
 
+/// What an option of the section says.
+#[derive(Clone, Copy, Debug, PartialEq, Eq)]
+pub enum OptionKind {
+    BufferSize,
+    Workers,
+    Harakiri,
+    ExpireFreq,
+    Spoolers,
+    SpoolFreq,
+    Socket,
+    Cache,
+    /// Taken with any value, and without effect.
+    NoEffect,
+}
+
 fn with_buffer_size(conf: Conf, value: &[u8]) -> Result<Conf, Refusal>
-    ensures { Gives result (set_number (number_in 1 65535 value.now) (λ n. record conf { buffer_size = n })) }
+    ensures { GivesValue result (set_number (number_in 1 65535 value.now) (λ n. record conf { buffer_size = n })) }
 {
     let Some(number) = number_in(1, 65_535, value) else {
         return Err(Refusal::Refused(ConfKind::BadValue));
@@ -26,7 +41,7 @@ fn with_buffer_size(conf: Conf, value: &[u8]) -> Result<Conf, Refusal>
 }
 
 fn with_workers(conf: Conf, value: &[u8]) -> Result<Conf, Refusal>
-    ensures { Gives result (set_number (number_in 1 64 value.now) (λ n. record conf { workers = n })) }
+    ensures { GivesValue result (set_number (number_in 1 64 value.now) (λ n. record conf { workers = n })) }
 {
     let Some(number) = number_in(1, 64, value) else {
         return Err(Refusal::Refused(ConfKind::BadValue));
@@ -37,7 +52,7 @@ fn with_workers(conf: Conf, value: &[u8]) -> Result<Conf, Refusal>
 }
 
 fn with_harakiri(conf: Conf, value: &[u8]) -> Result<Conf, Refusal>
-    ensures { Gives result (set_number (number_in 0 86400 value.now) (λ n. record conf { harakiri = n })) }
+    ensures { GivesValue result (set_number (number_in 0 86400 value.now) (λ n. record conf { harakiri = n })) }
 {
     let Some(number) = number_in(0, 86_400, value) else {
         return Err(Refusal::Refused(ConfKind::BadValue));
@@ -48,7 +63,7 @@ fn with_harakiri(conf: Conf, value: &[u8]) -> Result<Conf, Refusal>
 }
 
 fn with_expire_freq(conf: Conf, value: &[u8]) -> Result<Conf, Refusal>
-    ensures { Gives result (set_number (number_in 1 3600 value.now) (λ n. record conf { expire_freq = n })) }
+    ensures { GivesValue result (set_number (number_in 1 3600 value.now) (λ n. record conf { expire_freq = n })) }
 {
     let Some(number) = number_in(1, 3_600, value) else {
         return Err(Refusal::Refused(ConfKind::BadValue));
@@ -59,7 +74,7 @@ fn with_expire_freq(conf: Conf, value: &[u8]) -> Result<Conf, Refusal>
 }
 
 fn with_spoolers(conf: Conf, value: &[u8]) -> Result<Conf, Refusal>
-    ensures { Gives result (set_number (number_in 1 16 value.now) (λ n. record conf { spoolers = n })) }
+    ensures { GivesValue result (set_number (number_in 1 16 value.now) (λ n. record conf { spoolers = n })) }
 {
     let Some(number) = number_in(1, 16, value) else {
         return Err(Refusal::Refused(ConfKind::BadValue));
@@ -70,7 +85,7 @@ fn with_spoolers(conf: Conf, value: &[u8]) -> Result<Conf, Refusal>
 }
 
 fn with_spool_freq(conf: Conf, value: &[u8]) -> Result<Conf, Refusal>
-    ensures { Gives result (set_number (number_in 1 3600 value.now) (λ n. record conf { spool_freq = n })) }
+    ensures { GivesValue result (set_number (number_in 1 3600 value.now) (λ n. record conf { spool_freq = n })) }
 {
     let Some(number) = number_in(1, 3_600, value) else {
         return Err(Refusal::Refused(ConfKind::BadValue));
@@ -81,7 +96,7 @@ fn with_spool_freq(conf: Conf, value: &[u8]) -> Result<Conf, Refusal>
 }
 
 fn with_socket(alloc: Global, conf: Conf, value: &[u8]) -> Result<Conf, Refusal>
-    ensures { Gives result (if length value.now == 0 then Err kinds.BadValue else Ok (record conf { socket = value.now })) }
+    ensures { GivesValue result (if length value.now == 0 then Err kinds.BadValue else Ok (record conf { socket = value.now })) }
 {
     if value.is_empty() {
         return Err(Refusal::Refused(ConfKind::BadValue));
@@ -92,7 +107,7 @@ fn with_socket(alloc: Global, conf: Conf, value: &[u8]) -> Result<Conf, Refusal>
 
 fn with_cache2(alloc: Global, conf: Conf, value: &[u8]) -> Result<Conf, Refusal>
     requires { AreCaches conf.caches }
-    ensures { Gives result (set_caches conf (with_cache conf.caches value.now)) }
+    ensures { GivesValue result (set_caches conf (with_cache conf.caches value.now)) }
 {
     let caches = with_cache(alloc, conf.caches, value)?;
     Ok(Conf { caches, ..conf })
@@ -128,37 +143,70 @@ fn is_passed_over(name: &[u8]) -> bool
     )
 }
 
-/// One option with its value.
-pub fn with_option(alloc: Global, conf: Conf, name: &[u8], value: &[u8]) -> Result<Conf, Refusal>
-    requires { AreCaches conf.caches }
-    ensures { Gives result (with_option conf name.now value.now) }
+// The option of a name.
+fn option_kind(name: &[u8]) -> Option<OptionKind>
+    ensures { result ≡ option_kind name.now }
 {
     if is(name, b"buffer-size") {
-        return with_buffer_size(conf, value);
+        return Some(OptionKind::BufferSize);
     }
     if is(name, b"workers") || is(name, b"processes") {
-        return with_workers(conf, value);
+        return Some(OptionKind::Workers);
     }
     if is(name, b"harakiri") {
-        return with_harakiri(conf, value);
+        return Some(OptionKind::Harakiri);
     }
     if is(name, b"cache-expire-freq") {
-        return with_expire_freq(conf, value);
+        return Some(OptionKind::ExpireFreq);
     }
     if is(name, b"spooler-processes") {
-        return with_spoolers(conf, value);
+        return Some(OptionKind::Spoolers);
     }
     if is(name, b"spooler-frequency") {
-        return with_spool_freq(conf, value);
+        return Some(OptionKind::SpoolFreq);
     }
     if is(name, b"socket") {
-        return with_socket(alloc, conf, value);
+        return Some(OptionKind::Socket);
     }
     if is(name, b"cache2") {
-        return with_cache2(alloc, conf, value);
+        return Some(OptionKind::Cache);
     }
     if is_passed_over(name) {
-        return Ok(conf);
+        return Some(OptionKind::NoEffect);
     }
-    Err(Refusal::Refused(ConfKind::UnknownOption))
+    None
+}
+
+// An option with its value.
+fn set_option(
+    alloc: Global,
+    conf: Conf,
+    kind: OptionKind,
+    value: &[u8],
+) -> Result<Conf, Refusal>
+    requires { AreCaches conf.caches }
+    ensures { GivesValue result (set_option conf kind value.now) }
+{
+    match kind {
+        OptionKind::BufferSize => with_buffer_size(conf, value),
+        OptionKind::Workers => with_workers(conf, value),
+        OptionKind::Harakiri => with_harakiri(conf, value),
+        OptionKind::ExpireFreq => with_expire_freq(conf, value),
+        OptionKind::Spoolers => with_spoolers(conf, value),
+        OptionKind::SpoolFreq => with_spool_freq(conf, value),
+        OptionKind::Socket => with_socket(alloc, conf, value),
+        OptionKind::Cache => with_cache2(alloc, conf, value),
+        OptionKind::NoEffect => Ok(conf),
+    }
+}
+
+/// One option with its value, or why it is refused.
+pub fn with_option(alloc: Global, conf: Conf, name: &[u8], value: &[u8]) -> Result<Conf, Refusal>
+    requires { AreCaches conf.caches }
+    ensures { GivesValue result (with_option conf name.now value.now) }
+{
+    match option_kind(name) {
+        Some(kind) => set_option(alloc, conf, kind, value),
+        None => Err(Refusal::Refused(ConfKind::UnknownOption)),
+    }
 }

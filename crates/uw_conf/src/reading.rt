@@ -1,10 +1,10 @@
 // A text, line by line.
 ghost use Rattle.std.specs.Prelude.{◌≡◌, ◌≤◌, ◌<◌, ◌^◌, length, None, Ok, IfOk};
 ghost use Rattle.std.specs.Str.Lines.{lines};
-ghost use Rattle.uw_conf.specs.Answers.{Reads};
+ghost use Rattle.uw_conf.specs.Given.{ReadsConf};
 ghost use Rattle.uw_conf.specs.Configuration.{blank_conf, conf_read, configuration_of, read_line, read_lines, with_line};
-ghost use Rattle.uw_conf.specs.Progress.{Steps, progress_seen};
-ghost use Rattle.uw_conf.specs.Seen.{line_seen};
+ghost use Rattle.uw_conf.specs.ReadingSteps.{GivesProgress, progress_seen};
+ghost use Rattle.uw_conf.specs.ReadingSteps.{line_seen};
 ghost use Rattle.uw_conf.specs.Sound.{AreCaches};
 
 use crate::lines::{LineKind, is_utf8, line_of, next_line};
@@ -45,7 +45,7 @@ fn blank_conf(alloc: Global) -> Conf
 // A line that was told what it is.
 fn with_line(alloc: Global, progress: Progress, line: LineKind<'_>) -> Result<Progress, Refusal>
     requires { AreCaches progress.conf.caches }
-    ensures { Steps result (with_line (progress_seen progress) (line_seen line.entry)) }
+    ensures { GivesProgress result (with_line (progress_seen progress) (line_seen line.entry)) }
 {
     let Progress { inside, conf } = progress;
     match line {
@@ -72,7 +72,7 @@ fn with_line(alloc: Global, progress: Progress, line: LineKind<'_>) -> Result<Pr
 // One line.
 fn read_line(alloc: Global, progress: Progress, line: &[u8]) -> Result<Progress, Refusal>
     requires { AreCaches progress.conf.caches }
-    ensures { Steps result (read_line (progress_seen progress) line.now) }
+    ensures { GivesProgress result (read_line (progress_seen progress) line.now) }
 {
     if !is_utf8(line) {
         return Err(Refusal::Refused(ConfKind::BadLine));
@@ -83,7 +83,7 @@ fn read_line(alloc: Global, progress: Progress, line: &[u8]) -> Result<Progress,
 // The lines of a text, up to the first that is refused.
 fn read_lines(alloc: Global, text: &[u8]) -> Result<Conf, ConfError>
     requires { length text.now ≤ 1048576 }
-    ensures says { Reads result (conf_read (read_lines (Ok (record { inside = None; conf = blank_conf })) 1 (lines text.now))) }
+    ensures says { ReadsConf result (conf_read (read_lines (Ok (record { inside = None; conf = blank_conf })) 1 (lines text.now))) }
     ensures sound { IfOk result (λ conf. AreCaches conf.caches) }
 {
     let mut progress = Progress {
@@ -110,7 +110,7 @@ fn read_lines(alloc: Global, text: &[u8]) -> Result<Conf, ConfError>
 /// A text that is too large is refused as a whole.
 pub fn read_conf(alloc: Global, text: &[u8]) -> Result<Conf, ConfError>
     requires { length text.now < 2 ^ 32 }
-    ensures says { Reads result (configuration_of text.now) }
+    ensures says { ReadsConf result (configuration_of text.now) }
     ensures sound { IfOk result (λ conf. AreCaches conf.caches) }
 {
     if MOST_TEXT_BYTES < text.len() {

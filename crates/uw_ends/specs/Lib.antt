@@ -1,4 +1,4 @@
-pub mod Answers
+pub mod Given
 pub mod Numbers
 pub mod Words
 pub mod Ends

@@ -10,16 +10,17 @@ has_leading_zero (byte ∷ []) = false
 has_leading_zero (byte ∷ next ∷ rest) = byte == 48
 
 -- the number that decimal digits write, without a sign or a leading zero (own rule)
-abbrev pub number_of : List ℕ → Option ℕ
-number_of text = if has_leading_zero text then None else decimal_of text
+abbrev pub plain_number : List ℕ → Option ℕ
+plain_number text = if has_leading_zero text then None else decimal_of text
 
-abbrev pub kept_within : ℕ → ℕ → Option ℕ → Option ℕ
-kept_within low high None = None
-kept_within low high (Some number) = if nat_le low number && nat_le number high then Some number else None
+-- a number from `low` to `high`, or none
+abbrev pub within_range : ℕ → ℕ → Option ℕ → Option ℕ
+within_range low high None = None
+within_range low high (Some number) = if nat_le low number && nat_le number high then Some number else None
 
 -- the same, from `low` to `high`
 abbrev pub number_within : ℕ → ℕ → List ℕ → Option ℕ
-number_within low high text = kept_within low high (number_of text)
+number_within low high text = within_range low high (plain_number text)
 
 -- what each text gives, if each gives something
 abbrev pub all_read : (List ℕ → Option ℕ) → List (List ℕ) → Option (List ℕ)

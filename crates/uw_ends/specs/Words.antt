@@ -16,6 +16,7 @@ plain_app name = on_top (λ shape. record shape { no_binary_name = true; disable
 abbrev pub die_rule : Rule
 die_rule = record (new_rule (codes "die")) { long = Some (codes "die") }
 
+-- the command `pipe`, with its one option
 abbrev pub pipe_app : App
 pipe_app = with_rule (plain_app (codes "pipe")) die_rule
 
@@ -23,6 +24,7 @@ pipe_app = with_rule (plain_app (codes "pipe")) die_rule
 abbrev pub required_rule : Text → Rule
 required_rule name = record (new_rule name) { required = true }
 
+-- the command `load`, with its two positionals
 abbrev pub load_app : App
 load_app = with_rule (with_rule (plain_app (codes "load")) (required_rule (codes "first"))) (required_rule (codes "count"))
 
@@ -31,8 +33,8 @@ abbrev pub is_taken : App → List Text → Bool
 is_taken app words = is_empty (fault_of app words)
 
 -- the value that clap finds for an argument
-abbrev pub value_of : App → Text → List Text → Option Text
-value_of app name words = first_of name (matches_of app words)
+abbrev pub argument_value : App → Text → List Text → Option Text
+argument_value app name words = first_of name (matches_of app words)
 
 -- a command without words of its own
 abbrev pub plain_of : Text → Command → List Text → Option Command
@@ -43,8 +45,9 @@ abbrev pub pipe_with : Option Text → Option Command
 pipe_with None = Some (Pipe [])
 pipe_with (Some text) = option_map (λ deaths. Pipe deaths) (deaths_of text)
 
+-- the words of `pipe`
 abbrev pub pipe_of : List Text → Option Command
-pipe_of words = if is_taken pipe_app words then pipe_with (value_of pipe_app (codes "die") words) else None
+pipe_of words = if is_taken pipe_app words then pipe_with (argument_value pipe_app (codes "die") words) else None
 
 -- both numbers of `load`
 abbrev pub load_with : Option ℕ → Option ℕ → Option Command
@@ -53,8 +56,9 @@ load_with _ _ = None
 
 -- the number that clap finds for an argument, at most `high`
 abbrev pub number_given : App → Text → ℕ → List Text → Option ℕ
-number_given app name high words = option_and_then (number_within 0 high) (value_of app name words)
+number_given app name high words = option_and_then (number_within 0 high) (argument_value app name words)
 
+-- the words of `load`
 abbrev pub load_of : List Text → Option Command
 load_of words =
     if is_taken load_app words then load_with (number_given load_app (codes "first") (2 ^ 31 - 1) words) (number_given load_app (codes "count") 1000000 words)

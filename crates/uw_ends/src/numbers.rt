@@ -1,8 +1,8 @@
 // Numbers as words of the command line.
 ghost use Rattle.std.specs.Prelude.{◌≡◌, ◌≤◌, ◌==◌, IfOk, IfSome, map};
 ghost use Rattle.std.specs.List.{slice_split};
-ghost use Rattle.uw_ends.specs.Answers.{Answers};
-ghost use Rattle.uw_ends.specs.Numbers.{all_read, deaths_of, number_of, number_within};
+ghost use Rattle.uw_ends.specs.Given.{GivesOrUsage};
+ghost use Rattle.uw_ends.specs.Numbers.{all_read, deaths_of, plain_number, number_within};
 
 use crate::WordsFault;
 use std::alloc::{AllocError, Global};
@@ -16,7 +16,7 @@ const LAST_WRITE: u64 = 1_000_000_000;
 
 // The number that digits write, without a sign or a leading zero.
 fn number(text: &[u8]) -> Option<u64>
-    ensures { result ≡ number_of text.now }
+    ensures { result ≡ plain_number text.now }
 {
     match text {
         [b'0', _, ..] => None,
@@ -46,7 +46,7 @@ fn parts<'a>(alloc: Global, text: &'a str) -> Result<Vec<&'a str>, AllocError>
 
 // The number of each part, from 1 to the highest of a write.
 fn numbers_in(alloc: Global, parts: &[&str]) -> Result<NumberList, WordsFault>
-    ensures { Answers result (all_read (number_within 1 LAST_WRITE) (map (λ part. part.now) parts.now)) }
+    ensures { GivesOrUsage result (all_read (number_within 1 LAST_WRITE) (map (λ part. part.now) parts.now)) }
 {
     let mut numbers = NumberList::new(alloc);
     for part in parts {
@@ -60,7 +60,7 @@ fn numbers_in(alloc: Global, parts: &[&str]) -> Result<NumberList, WordsFault>
 
 // The numbers of the word writes at which the workers of a run die, joined by commas.
 pub(crate) fn deaths(alloc: Global, text: &str) -> Result<NumberList, WordsFault>
-    ensures { Answers result (deaths_of text.now) }
+    ensures { GivesOrUsage result (deaths_of text.now) }
 {
     let parts = parts(alloc, text)?;
     if parts.len() > MOST_DEATHS {

@@ -2,7 +2,7 @@
 ghost use Rattle.std.specs.Prelude.{◌≡◌, ◌≤◌, map, option_and_then, IfOk, IfSome};
 ghost use Rattle.std.specs.String.{string_bytes};
 ghost use Rattle.clap.specs.Words.{first_of, found_of, rows_of};
-ghost use Rattle.uw_ends.specs.Answers.{Answers, IsWithin};
+ghost use Rattle.uw_ends.specs.Given.{GivesOrUsage, IsWithin};
 ghost use Rattle.uw_ends.specs.Numbers.{number_within};
 ghost use Rattle.uw_ends.specs.Words.{command_named, command_of, load_of, pipe_of, plain_of};
 
@@ -67,7 +67,7 @@ impl From<AllocError> for WordsFault {
 /// numbers joined by commas, each from 1 to 1,000,000,000; `load` has a first number below 2^31 and a count of at most 1,000,000; `spool`, `steps`
 /// and `serve` stand alone. A number is decimal digits without a sign or a leading zero. Usage comes exactly where the words say no command.
 pub fn read_words(alloc: Global, words: &[String]) -> Result<Command, WordsFault>
-    ensures command { Answers result (command_of (map string_bytes words.now)) }
+    ensures command { GivesOrUsage result (command_of (map string_bytes words.now)) }
     ensures within { IfOk result IsWithin }
 {
     match words {
@@ -78,7 +78,7 @@ pub fn read_words(alloc: Global, words: &[String]) -> Result<Command, WordsFault
 
 // The command of a first word, on the words after it.
 fn read_named(alloc: Global, name: &[u8], words: &[String]) -> Result<Command, WordsFault>
-    ensures command { Answers result (command_named name.now (map string_bytes words.now)) }
+    ensures command { GivesOrUsage result (command_named name.now (map string_bytes words.now)) }
     ensures within { IfOk result IsWithin }
 {
     if name == b"pipe".as_slice() {
@@ -104,7 +104,7 @@ fn read_plain(
     words: &[String],
 ) -> Result<Command, WordsFault>
     requires { IsWithin command }
-    ensures command { Answers result (plain_of name.now command (map string_bytes words.now)) }
+    ensures command { GivesOrUsage result (plain_of name.now command (map string_bytes words.now)) }
     ensures within { IfOk result IsWithin }
 {
     parse(plain_command(alloc, name), words)?;
@@ -112,7 +112,7 @@ fn read_plain(
 }
 
 fn read_pipe(alloc: Global, words: &[String]) -> Result<Command, WordsFault>
-    ensures command { Answers result (pipe_of (map string_bytes words.now)) }
+    ensures command { GivesOrUsage result (pipe_of (map string_bytes words.now)) }
     ensures within { IfOk result IsWithin }
 {
     let matches = parse(pipe_command(alloc)?, words)?;
@@ -127,7 +127,7 @@ fn read_pipe(alloc: Global, words: &[String]) -> Result<Command, WordsFault>
 }
 
 fn read_load(alloc: Global, words: &[String]) -> Result<Command, WordsFault>
-    ensures command { Answers result (load_of (map string_bytes words.now)) }
+    ensures command { GivesOrUsage result (load_of (map string_bytes words.now)) }
     ensures within { IfOk result IsWithin }
 {
     let matches = parse(load_command(alloc)?, words)?;

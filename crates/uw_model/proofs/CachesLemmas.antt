@@ -13,23 +13,27 @@ use Rattle.uw_model.specs.declared.asks.AskAnswer.TheVariants as ask_answers
 use Rattle.uw_model.specs.Calls.{answer, next_state}
 use Rattle.uw_model.specs.ListState.{ListState}
 use Rattle.uw_model.specs.Asks.{Leads, answered, no_memory}
-use Rattle.uw_model.specs.Caches.{LeadsLists}
+use Rattle.uw_model.specs.Caches.{Lists, LeadsLists}
 
 -- a cache seen by its parts
 same_state : (c : ListState) (conf : CacheConf) (list : List Entry) → c.conf ≡ conf → c.list ≡ list → c ≡ record { conf = conf; list = list }
 same_state c conf list p q = ap₂ (λ (conf : CacheConf) (list : List Entry). let state : ListState = record { conf = conf; list = list } in state) p q
 
+-- lists seen by their caches
+same_lists : (a b : List ListState) → a ≡ b → let p : Lists = record { caches = a } in let q : Lists = record { caches = b } in p ≡ q
+same_lists a b e = ap (λ (caches : List ListState). let lists : Lists = record { caches = caches } in lists) e
+
 -- a call that was answered, by a life that was not asked
 pub call_answered : (caches : List ListState) (cache moment : ℕ) (call : Call) (told : Option (List ℕ)) (c next : ListState) (given : Answer)
     → cache < length caches → c ≡ get_or caches cache c → given ≡ answer c.conf c.list moment call → next.list ≡ next_state c.conf c.list moment call → next.conf ≡ c.conf
-    → Leads (λ asked writes. LeadsLists caches asked (set caches cache next)) told told moment (asks.Cache cache call) (answered (ask_answers.Cache given))
+    → Leads (λ asked writes. LeadsLists (record { caches = caches }) asked (record { caches = set caches cache next })) told told moment (asks.Cache cache call) (answered (ask_answers.Cache given))
 call_answered caches cache moment call told c next given within here is list conf =
     let there : slice_get caches cache ≡ Some c = slice_get_read caches (length caches) cache c refl within here in
-    (0, (rw there (ap ask_answers.Cache is), rw there (ap (set caches cache) (same_state next c.conf _ conf list))), Spends-none told)
+    (0, (rw there (ap ask_answers.Cache is), rw there (same_lists _ _ (ap (set caches cache) (same_state next c.conf _ conf list)))), Spends-none told)
 
 -- a call for which there was no memory
 pub call_not_made : (caches : List ListState) (cache moment : ℕ) (call : Call) (told : Option (List ℕ)) (c next : ListState)
     → c ≡ get_or caches cache c → next.list ≡ c.list → next.conf ≡ c.conf
-    → Leads (λ asked writes. LeadsLists caches asked (set caches cache next)) told told moment (asks.Cache cache call) no_memory
+    → Leads (λ asked writes. LeadsLists (record { caches = caches }) asked (record { caches = set caches cache next })) told told moment (asks.Cache cache call) no_memory
 call_not_made caches cache moment call told c next here list conf =
-    (0, (tt, ap (set caches cache) (same_state next c.conf c.list conf list ∙ here) ∙ set-get_or caches cache c), Spends-none told)
+    (0, (tt, same_lists _ _ (ap (set caches cache) (same_state next c.conf c.list conf list ∙ here) ∙ set-get_or caches cache c)), Spends-none told)

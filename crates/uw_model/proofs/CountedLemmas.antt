@@ -9,7 +9,7 @@ use Rattle.uw_model.specs.declared.conf.CacheConf.{CacheConf}
 use Rattle.uw_model.specs.declared.entries.Entry.{Entry}
 use Rattle.uw_model.specs.Entries.{span}
 use Rattle.uw_model.specs.Placement.{is_clear_of, is_free}
-use Rattle.uw_model.specs.Counted.{counts, counted, is_in_the_way, IsBlockedUntil}
+use Rattle.uw_model.specs.PlacementSteps.{counts, counted, is_in_the_way, IsBlockedUntil}
 
 pub counted-filter : (conf : CacheConf) (at : Option ℕ) (list : List Entry) → counted conf at list ≡ filter (counts conf at) list
 counted-filter conf None [] = refl

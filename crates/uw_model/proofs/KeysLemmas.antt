@@ -11,7 +11,7 @@ use Rattle.uw_model.specs.Placement.{is_alive}
 use Rattle.uw_model.specs.declared.calls.Call.TheVariants as calls
 use Rattle.uw_model.specs.declared.calls.Answer.TheVariants as answers
 use Rattle.uw_model.specs.Calls.{refused, is_bad_key, without, alive_at, got, deleted, next_state}
-use Rattle.uw_model.specs.Keys.{lacks, HaveOwnKeys, IsPlaceOf, IsAlivePlace}
+use Rattle.uw_model.specs.KeySteps.{lacks, HaveOwnKeys, IsPlaceOf, IsAlivePlace}
 
 -- a test that all pass keeps the whole list
 pub filter_whole : {X : Type 0} (p : X → Bool) (xs : List X) → list_all p xs ≡ true → filter p xs ≡ xs

@@ -1,8 +1,8 @@
 -- The laws of the definitions.
-use Rattle.std.proofs.Common.{◌≡◌, ◌≢◌, ℕ, ◌+◌, ◌-◌, ◌<◌, ◌≤◌, max, Bool, true, false, not, ◌&&◌, ◌⊎◌, ◌↔◌, cond, List, ◌∷◌, get_or, All, Option, Some, None, is_some, unwrap_or, IsTrue, refl, sym, ap, ◌∙◌, arith}
+use Rattle.std.proofs.Common.{◌≡◌, ◌≢◌, ℕ, ◌+◌, ◌-◌, ◌<◌, ◌≤◌, ◌==◌, ◌||◌, nat_lt, max, Bool, true, false, not, ◌&&◌, ◌⊎◌, ◌↔◌, cond, List, ◌∷◌, get_or, All, Option, Some, None, is_some, unwrap_or, IsTrue, refl, sym, ap, ◌∙◌, arith}
 use Rattle.std.specs.List.{list_all}
 use Rattle.std.specs.Str.{bytes_eq}
-use Rattle.std.proofs.lemmas.Bool.{true_from_ne_false, false≢true, both_ways, and_from, cond-true, cond-false}
+use Rattle.std.proofs.lemmas.Bool.{or_left, or_right, true_from_ne_false, false≢true, both_ways, and_from, cond-true, cond-false}
 use Rattle.std.proofs.lemmas.Bool.Decides.{nat_tests}
 use Rattle.std.proofs.lemmas.List.Recursion.{and_from_places}
 use Rattle.uw_model.specs.declared.conf.CacheConf.{CacheConf}
@@ -125,15 +125,24 @@ front_read conf new kept later good alive =
 pub alive_before : (conf : CacheConf) (e : Entry) (later : ℕ) → (e.dies ≡ 0) ⊎ (later < e.dies) → is_alive conf later e ≡ true
 alive_before conf e later before = grind (arith, nat_tests)
 
-placed_reads : (conf : CacheConf) (later : ℕ) (list : List Entry) (key value : List ℕ) (dies : ℕ) (kept : Option (List Entry)) → is_bad_key conf key ≡ false → (dies ≡ 0) ⊎ (later < dies) → Reads conf later key value (placed conf list key value dies answers.Done kept)
-placed_reads conf later list key value dies None good before = λ e. absurd (cc)
-placed_reads conf later list key value dies (Some kept) good before = λ _.
+placed_reads : (conf : CacheConf) (later : ℕ) (list : List Entry) (key value : List ℕ) (dies : ℕ) (kept : Option (List Entry)) → is_bad_key conf key ≡ false → ((e : Entry) → e.dies ≡ dies → is_alive conf later e ≡ true) → Reads conf later key value (placed conf list key value dies answers.Done kept)
+placed_reads conf later list key value dies None good alive = λ e. absurd (cc)
+placed_reads conf later list key value dies (Some kept) good alive = λ _.
     let new : Entry = record { key = key; value = value; dies = dies; first = unwrap_or (first_run conf kept (span conf value)) 0 } in
-    front_read conf new kept later good (alive_before conf new later before)
+    front_read conf new kept later good (alive new refl)
 
-pub set_reads : (conf : CacheConf) (list : List Entry) (now later ttl : ℕ) (key value : List ℕ) → answer conf list now (calls.Set key value ttl) ≡ answers.Done → (dies_at now ttl ≡ 0) ⊎ (later < dies_at now ttl) → answer conf (next_state conf list now (calls.Set key value ttl)) later (calls.Get key) ≡ answers.Value value
-set_reads conf list now later ttl key value done before =
+-- what a set wrote is read, at a moment at which each entry that dies when it does is alive
+set_reads_alive : (conf : CacheConf) (list : List Entry) (now later ttl : ℕ) (key value : List ℕ) → answer conf list now (calls.Set key value ttl) ≡ answers.Done → ((e : Entry) → e.dies ≡ dies_at now ttl → is_alive conf later e ≡ true) → answer conf (next_state conf list now (calls.Set key value ttl)) later (calls.Get key) ≡ answers.Value value
+set_reads_alive conf list now later ttl key value done alive =
     (unless_reads conf later key value list (is_bad_key conf key) answers.KeyLength _ (λ e. absurd (cc)) (λ good.
     unless_reads conf later key value list (is_too_long conf value) answers.TooLong _ (λ e. absurd (cc)) (λ _.
     unless_reads conf later key value list (is_some (alive_at conf list now key)) answers.Exists _ (λ e. absurd (cc)) (λ _.
-    placed_reads conf later list key value (dies_at now ttl) (room conf (without key list) (span conf value) now) good before)))) done
+    placed_reads conf later list key value (dies_at now ttl) (room conf (without key list) (span conf value) now) good alive)))) done
+
+pub set_reads : (conf : CacheConf) (list : List Entry) (now later ttl : ℕ) (key value : List ℕ) → answer conf list now (calls.Set key value ttl) ≡ answers.Done → (dies_at now ttl ≡ 0) ⊎ (later < dies_at now ttl) → answer conf (next_state conf list now (calls.Set key value ttl)) later (calls.Get key) ≡ answers.Value value
+set_reads conf list now later ttl key value done before =
+    set_reads_alive conf list now later ttl key value done (λ e same. alive_before conf e later (rw same before))
+
+pub set_reads_always : (conf : CacheConf) (list : List Entry) (now later ttl : ℕ) (key value : List ℕ) → IsTrue conf.purge_lru → answer conf list now (calls.Set key value ttl) ≡ answers.Done → answer conf (next_state conf list now (calls.Set key value ttl)) later (calls.Get key) ≡ answers.Value value
+set_reads_always conf list now later ttl key value purges done =
+    set_reads_alive conf list now later ttl key value done (λ e _. or_left (e.dies == 0 || conf.purge_lru) (nat_lt later e.dies) (or_right (e.dies == 0) conf.purge_lru purges))

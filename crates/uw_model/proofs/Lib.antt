@@ -9,3 +9,5 @@ pub mod NextStateLemmas
 pub mod LawLemmas
 pub mod MathLemmas
 pub mod CachesLemmas
+pub mod HistoryLemmas
+pub mod WrittenLemmas

@@ -15,8 +15,8 @@ use Rattle.uw_model.specs.declared.calls.Call.TheVariants as calls
 use Rattle.uw_model.specs.declared.calls.Answer.TheVariants as answers
 use Rattle.uw_model.specs.Entries.{span}
 use Rattle.uw_model.specs.Placement.{is_alive, first_run, room}
-use Rattle.uw_model.specs.Calls.{Outcome, refused, is_bad_key, alive_at, without, placed, written, is_no_number, number_of, number_at, result_of, is_zero_division, is_in_range, bytes_of_number, dies_of_number, reckoned, outcome, answer, next_state, dies_at}
-use Rattle.uw_model.specs.Laws.{is_refusal, added, AreAdded}
+use Rattle.uw_model.specs.Calls.{Outcome, refused, is_bad_key, alive_at, without, placed, written, is_no_number, number_of, number_at, result_of, is_zero_division, is_in_range, bytes_of_number, dies_of_number, number_outcome, outcome, answer, next_state, dies_at}
+use Rattle.uw_model.specs.Laws.{is_refusal, list_after_amounts, TakesAmounts}
 use Rattle.uw_model.proofs.LawLemmas.{front_alive, alive_before}
 use Rattle.uw_model.proofs.RoomLemmas.{cases_choice}
 
@@ -40,9 +40,9 @@ math_written conf list now op key by ttl good eight divides fits =
 
 -- the same, from what each step of the call found
 pub math_outcome : (conf : CacheConf) (list : List Entry) (now : ℕ) (op : MathOp) (key : List ℕ) (by : ℤ) (ttl : ℕ) (alive : Option Entry) (number result : ℤ) (dies : ℕ) (entry : Entry) → is_bad_key conf key ≡ false → alive ≡ alive_at conf list now key → Some number ≡ cond (is_no_number alive) None (Some (number_at alive)) → is_zero_division op by ≡ false → dies ≡ dies_of_number now ttl alive → Some result ≡ cond (is_in_range (result_of op number by)) (Some (result_of op number by)) None → entry ≡ record { key = key; value = bytes_of_number result; dies = dies; first = 0 } → written conf list now entry.key entry.value entry.dies (answers.Number result) ≡ outcome conf list now (calls.Math op key by ttl)
-math_outcome conf list now op key by ttl alive number result dies entry good found read divides moment reckoned is =
+math_outcome conf list now op key by ttl alive number result dies entry good found read divides moment number_outcome is =
     let eight = none_or (is_no_number alive) (number_at alive) number (sym read) in
-    let fits = cond_some (is_in_range (result_of op number by)) (result_of op number by) result (sym reckoned) in
+    let fits = cond_some (is_in_range (result_of op number by)) (result_of op number by) result (sym number_outcome) in
     let at_found = ap (λ o. result_of op (number_at o) by) (sym found) in
     let same : result_of op (number_at (alive_at conf list now key)) by ≡ result = at_found ∙ (ap (λ n. result_of op n by) eight.1 ∙ fits.1) in
     ap (λ (e : Entry). written conf list now e.key e.value e.dies (answers.Number result)) is
@@ -170,7 +170,7 @@ alive_still conf now ttl e (Some o) early each dies =
       | inr some ↦ alive_written conf now ttl e early (dies ∙ (rw some refl))
     ]
 
-pub added_sum : (conf : CacheConf) (list : List Entry) (now ttl : ℕ) (key : List ℕ) (before : ℤ) (amounts : List ℤ) → now < 2 ^ 64 - 1 → answer conf list now (calls.Num key) ≡ answers.Number before → AreAdded conf list now key ttl amounts → answer conf (added conf list now key ttl amounts) now (calls.Num key) ≡ answers.Number (fold ◌+ℤ◌ before amounts)
+pub added_sum : (conf : CacheConf) (list : List Entry) (now ttl : ℕ) (key : List ℕ) (before : ℤ) (amounts : List ℤ) → now < 2 ^ 64 - 1 → answer conf list now (calls.Num key) ≡ answers.Number before → TakesAmounts conf list now key ttl amounts → answer conf (list_after_amounts conf list now key ttl amounts) now (calls.Num key) ≡ answers.Number (fold ◌+ℤ◌ before amounts)
 added_sum conf list now ttl key before [] early said added_all = said
 added_sum conf list now ttl key before (by ∷ amounts) early said added_all =
     let alive = alive_at conf list now key in

@@ -16,7 +16,7 @@ use Rattle.uw_model.specs.declared.calls.Answer.TheVariants as answers
 use Rattle.uw_model.specs.Entries.{IsCacheConf, IsEntry, IsApart, IsApartFrom, AreApart, IsState, max_value, span}
 use Rattle.uw_model.specs.Placement.{is_alive, is_clear_of, is_free, first_run, room}
 use Rattle.uw_model.specs.Calls.{Outcome, refused, is_bad_key, is_too_long, alive_at, without, got, placed, written, deleted, is_no_number, number_at, result_of, is_zero_division, is_in_range, bytes_of_number, dies_of_number, next_state, dies_at}
-use Rattle.uw_model.specs.Keys.{lacks}
+use Rattle.uw_model.specs.KeySteps.{lacks}
 use Rattle.uw_model.proofs.KeysLemmas.{filter_whole, same_key}
 use Rattle.uw_model.proofs.PartLemmas.{part_state, part_filter, part_all, part_apart}
 use Rattle.uw_model.proofs.PlacementLemmas.{least_place_is}
@@ -90,11 +90,11 @@ front_apart conf new (o ∷ kept) others free =
     )
 
 -- a key and a value that a call may write
-record IsFit (conf : CacheConf) (key value : List ℕ) : Type 0 where
-  of_key : (1 ≤ length key) × (length key ≤ conf.keysize)
-  of_value : length value ≤ max_value conf
+pub record IsFit (conf : CacheConf) (key value : List ℕ) : Type 0 where
+  pub of_key : (1 ≤ length key) × (length key ≤ conf.keysize)
+  pub of_value : length value ≤ max_value conf
 
-some_of : {A : Type 0} (o : Option A) → is_some o ≡ true → (x : A) × (o ≡ Some x)
+pub some_of : {A : Type 0} (o : Option A) → is_some o ≡ true → (x : A) × (o ≡ Some x)
 some_of None e = absurd (cc)
 some_of (Some x) e = (x, refl)
 
@@ -137,7 +137,7 @@ written_state conf list now key value dies answered is fit state =
 
 -- ---- the calls
 
-fit_of : (conf : CacheConf) (key value : List ℕ) → is_bad_key conf key ≡ false → is_too_long conf value ≡ false → IsFit conf key value
+pub fit_of : (conf : CacheConf) (key value : List ℕ) → is_bad_key conf key ≡ false → is_too_long conf value ≡ false → IsFit conf key value
 fit_of conf key value good short = record { of_key = (grind (arith, nat_tests), grind (arith, nat_tests)); of_value = ltb-false (max_value conf) (length value) short }
 
 -- the alive entry of a key, taken out of the list
@@ -145,7 +145,7 @@ taken_alive : (conf : CacheConf) (list : List Entry) (now : ℕ) (key : List ℕ
 taken_alive conf list now key state e found = taken_found conf (λ o. bytes_eq o.key key && is_alive conf now o) list e found state.apart
 
 -- the eight bytes of a number fit everywhere
-number_fit : (conf : CacheConf) (key : List ℕ) (number : ℤ) → IsCacheConf conf → is_bad_key conf key ≡ false → IsFit conf key (bytes_of_number number)
+pub number_fit : (conf : CacheConf) (key : List ℕ) (number : ℤ) → IsCacheConf conf → is_bad_key conf key ≡ false → IsFit conf key (bytes_of_number number)
 number_fit conf key number is good =
     let m = mul-le 1 8 conf.blocks conf.blocksize is.blocks.0 is.blocksize.0 in
     record {

@@ -8,7 +8,7 @@ use Rattle.uw_model.specs.declared.conf.CacheConf.{CacheConf}
 use Rattle.uw_model.specs.declared.entries.Entry.{Entry}
 use Rattle.uw_model.specs.Entries.{IsEntry, IsApart, IsApartFrom, AreApart, IsState, covers}
 use Rattle.uw_model.specs.Calls.{without}
-use Rattle.uw_model.specs.Keys.{lacks, HaveOwnKeys}
+use Rattle.uw_model.specs.KeySteps.{lacks, HaveOwnKeys}
 
 pub entries_are : (conf : CacheConf) (list : List Entry) → AreApart conf list → All (IsEntry conf) list
 entries_are conf [] h = All-nil (IsEntry conf)

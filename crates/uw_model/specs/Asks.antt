@@ -1,8 +1,10 @@
 -- What a desk is asked, how each ask ended, and what one call of a desk did (own rule).
-use Rattle.std.specs.Prelude.{ℕ, Bool, true, false, List, [], ◌∷◌, Option, None, Some, Result, Ok, Err}
-use Rattle.uw_outside.specs.Lives.{Spends}
+use Rattle.std.specs.Prelude.{ℕ, ◌<◌, Bool, true, false, List, [], ◌∷◌, filter, map, Option, None, Some, Result, Ok, Err}
+use Rattle.uw_outside.specs.Lives.{IsSpent, Spends}
 use Rattle.uw_model.specs.declared.asks.Ask.{Ask}
 use Rattle.uw_model.specs.declared.asks.AskAnswer.{AskAnswer}
+use Rattle.uw_model.specs.declared.asks.Asked.{Asked}
+use Rattle.uw_model.specs.declared.asks.Ask.TheVariants as asks
 use Rattle.uw_model.specs.declared.desk.DeskFault.{DeskFault}
 use Rattle.uw_model.specs.declared.desk.DeskFault.TheVariants as faults
 
@@ -30,11 +32,11 @@ counted_answer no_memory = None
 abbrev pub Leads : (List Asking → ℕ → Type 0) → Option (List ℕ) → Option (List ℕ) → ℕ → Ask → AskEnd → Type 0
 Leads led before now moment ask end = (writes : ℕ) × led (record { moment = moment; ask = ask; end = end } ∷ []) writes × Spends before now writes
 
--- what a call of a desk did, by what it answered: `led` says which asks led the desk on, and how many word writes were made for them
+-- what a call of a desk did, by what it answered: `led` says which asks led the desk on, and how many word writes were made for them; a death comes in place of the next word write
 abbrev pub Calls : {T : Type 0} → (T → AskAnswer) → (List Asking → ℕ → Type 0) → Option (List ℕ) → Option (List ℕ) → ℕ → Ask → Result T DeskFault → Type 0
 Calls kind led before now moment ask (Ok answer) = Leads led before now moment ask (answered (kind answer))
-Calls kind led before now moment ask (Err (faults.Died true)) = (answer : AskAnswer) × Leads led before now moment ask (died_whole answer)
-Calls kind led before now moment ask (Err (faults.Died false)) = Leads led before now moment ask died_absent
+Calls kind led before now moment ask (Err (faults.Died true)) = IsSpent now × ((answer : AskAnswer) × Leads led before now moment ask (died_whole answer))
+Calls kind led before now moment ask (Err (faults.Died false)) = IsSpent now × Leads led before now moment ask died_absent
 Calls kind led before now moment ask (Err faults.Memory) = Leads led before now moment ask no_memory
 
 -- the worker died in a call
@@ -42,3 +44,15 @@ abbrev pub has_died : {T : Type 0} → Result T DeskFault → Bool
 has_died (Ok answer) = false
 has_died (Err (faults.Died whole)) = true
 has_died (Err faults.Memory) = false
+
+-- an ask that a desk is asked
+abbrev pub is_of_desk : Ask → Bool
+is_of_desk (asks.Cache cache call) = true
+
+-- of asks with their answers, at one moment, those that a desk is asked
+abbrev pub desk_asks : ℕ → List Asked → List Asking
+desk_asks moment asked = map (λ (a : Asked). record { moment = moment; ask = a.ask; end = answered a.answer }) (filter (λ (a : Asked). is_of_desk a.ask) asked)
+
+-- an ask of one of so many caches
+abbrev pub IsOfOneOf : ℕ → Ask → Type 0
+IsOfOneOf caches (asks.Cache cache call) = cache < caches

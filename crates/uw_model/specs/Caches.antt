@@ -17,7 +17,6 @@ use Rattle.uw_model.specs.Asks.{Asking, counted_answer}
 abbrev pub empty_caches : List CacheConf → List ListState
 empty_caches confs = map (λ conf. record { conf = conf; list = [] }) confs
 
--- the configuration of each cache
 -- the answer of the cache of a number; where there is no such cache, nothing is found
 abbrev pub answer_in : List ListState → ℕ → ℕ → Call → Answer
 answer_in caches cache now call = answer_by (slice_get caches cache) now call
@@ -34,23 +33,27 @@ caches_after caches cache now call = with_next (slice_get caches cache) caches c
     with_next None caches cache now call = caches
     with_next (Some c) caches cache now call = slice_set caches cache (record { conf = c.conf; list = next_state c.conf c.list now call })
 
--- the answer of an ask
-abbrev pub answer_of : List ListState → ℕ → Ask → AskAnswer
-answer_of caches now (asks.Cache cache call) = ask_answers.Cache (answer_in caches cache now call)
+-- the plain lists of a desk
+pub record Lists : Type 0 where
+  pub caches : List ListState
 
--- the caches after an ask
-abbrev pub caches_of : List ListState → ℕ → Ask → List ListState
-caches_of caches now (asks.Cache cache call) = caches_after caches cache now call
+-- the answer of an ask
+abbrev pub answer_of : Lists → ℕ → Ask → AskAnswer
+answer_of lists now (asks.Cache cache call) = ask_answers.Cache (answer_in lists.caches cache now call)
+
+-- the lists after an ask
+abbrev pub lists_after : Lists → ℕ → Ask → Lists
+lists_after lists now (asks.Cache cache call) = record lists { caches = caches_after lists.caches cache now call }
 
 -- asks lead from lists to lists: each that counts has the defined answer and leaves the defined lists, and an absent one changes nothing
-abbrev pub LeadsLists : List ListState → List Asking → List ListState → Type 0
+abbrev pub LeadsLists : Lists → List Asking → Lists → Type 0
 LeadsLists before [] now = now ≡ before
 LeadsLists before (a ∷ asked) now =
     IfSome (counted_answer a.end) (λ given. given ≡ answer_of before a.moment a.ask)
-    × LeadsLists (if is_some (counted_answer a.end) then caches_of before a.moment a.ask else before) asked now
+    × LeadsLists (if is_some (counted_answer a.end) then lists_after before a.moment a.ask else before) asked now
 
 -- what led first, and then what led on from there
-pub LeadsLists-append : (a b c : List ListState) (early late : List Asking) → LeadsLists a early b → LeadsLists b late c → LeadsLists a (early ++ late) c
-LeadsLists-append a b c [] late first more = let Leading : List ListState → Type 0 = λ from. LeadsLists from late c in subst Leading first more
+pub LeadsLists-append : (a b c : Lists) (early late : List Asking) → LeadsLists a early b → LeadsLists b late c → LeadsLists a (early ++ late) c
+LeadsLists-append a b c [] late first more = let Leading : Lists → Type 0 = λ from. LeadsLists from late c in subst Leading first more
 LeadsLists-append a b c (x ∷ early) late first more =
-    (first.0, LeadsLists-append (if is_some (counted_answer x.end) then caches_of a x.moment x.ask else a) b c early late first.1 more)
+    (first.0, LeadsLists-append (if is_some (counted_answer x.end) then lists_after a x.moment x.ask else a) b c early late first.1 more)

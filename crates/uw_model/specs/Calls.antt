@@ -27,6 +27,7 @@ dies_at now ttl = if ttl == 0 then 0 else min (now + ttl) (2 ^ 64 - 1)
 abbrev pub is_bad_key : CacheConf → List ℕ → Bool
 is_bad_key conf key = length key == 0 || nat_lt conf.keysize (length key)
 
+-- a value longer than the configuration allows
 abbrev pub is_too_long : CacheConf → List ℕ → Bool
 is_too_long conf value = nat_lt (max_value conf) (length value)
 
@@ -108,8 +109,8 @@ dies_of_number now ttl None = dies_at now ttl
 dies_of_number now ttl (Some e) = if ttl == 0 then e.dies else dies_at now ttl
 
 -- a number call that is not refused before its result is known
-abbrev pub reckoned : CacheConf → List Entry → ℕ → List ℕ → ℕ → Option Entry → ℤ → Outcome
-reckoned conf list now key ttl alive number =
+abbrev pub number_outcome : CacheConf → List Entry → ℕ → List ℕ → ℕ → Option Entry → ℤ → Outcome
+number_outcome conf list now key ttl alive number =
     if not (is_in_range number) then refused answers.Range list
     else written conf list now key (bytes_of_number number) (dies_of_number now ttl alive) (answers.Number number)
 
@@ -147,7 +148,7 @@ outcome conf list now (calls.Math op key by ttl) =
     if is_bad_key conf key then refused answers.KeyLength list
     else (if is_no_number (alive_at conf list now key) then refused answers.NotNumber list
     else (if is_zero_division op by then refused answers.ZeroDivisor list
-    else reckoned conf list now key ttl (alive_at conf list now key) (result_of op (number_at (alive_at conf list now key)) by)))
+    else number_outcome conf list now key ttl (alive_at conf list now key) (result_of op (number_at (alive_at conf list now key)) by)))
 outcome conf list now calls.Keys = record { answer = answers.Keys (map (λ e. e.key) (alive_of conf now list)); list = list }
 outcome conf list now calls.Sweep = record {
   answer = answers.Number (pos (length (filter (λ e. not (is_alive conf now e)) list)));

@@ -2,8 +2,8 @@ pub mod Entries
 pub mod Placement
 pub mod Calls
 pub mod History
-pub mod Counted
-pub mod Keys
+pub mod PlacementSteps
+pub mod KeySteps
 pub mod ListState
 pub mod Laws
 pub mod Asks

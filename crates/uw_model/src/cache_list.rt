@@ -1,24 +1,28 @@
 // Configurations of caches, in their order.
-ghost use Rattle.std.specs.Prelude.{◌≡◌, ◌∷◌, ◌++◌, [], length, OnOk, OnErr};
+ghost use Rattle.std.specs.Prelude.{◌≡◌, ◌∷◌, ◌++◌, [], length, map, OnOk, OnErr};
 
 use crate::CacheConf;
 use std::alloc::Global;
 use std::marker::Model;
-use uw_base::Memory;
+use uw_base::{Bytes, BytesList, Memory};
 
-/// Configurations of caches, in their order. Contracts see the list of them.
+/// Configurations of caches, in their order, which lends the caches' names. Contracts see the list of configurations.
 #[derive(Drop)]
 pub struct CacheConfList {
     confs: Vec<CacheConf>,
+    // The name of each.
+    names: BytesList,
 }
 
 impl Model for CacheConfList {
-    ghost use Rattle.std.specs.Prelude.{List};
+    ghost use Rattle.std.specs.Prelude.{◌≡◌, List, map};
     ghost use Rattle.uw_model.specs.declared.conf.CacheConf.{CacheConf};
 
     ghost Value = { List CacheConf };
 
     ghost view = { λ l. l.confs.items };
+
+    ghost invariant = { λ l. l.names ≡ map (λ (conf : CacheConf). conf.name) l.confs.items };
 }
 
 impl CacheConfList {
@@ -28,6 +32,7 @@ impl CacheConfList {
     {
         CacheConfList {
             confs: Vec::new(alloc),
+            names: BytesList::new(alloc),
         }
     }
 
@@ -44,12 +49,22 @@ impl CacheConfList {
         self.confs.len()
     }
 
-    /// Puts one configuration at the end.
-    pub fn push(&mut self, conf: CacheConf) -> Result<(), Memory>
+    /// The names of the caches, in their order.
+    pub fn names(&self) -> &BytesList
+        ensures { result.now ≡ map (λ conf. conf.name) self.now }
+    {
+        &self.names
+    }
+
+    /// Puts one configuration at the end, and a copy of its name.
+    pub fn push(&mut self, alloc: Global, conf: CacheConf) -> Result<(), Memory>
         ensures ok { OnOk result (self.new ≡ self.old ++ conf ∷ []) }
         ensures err { OnErr result (self.new ≡ self.old) }
     {
-        self.confs.push(conf)?;
+        let name = Bytes::from_slice(alloc, conf.name.as_slice())?;
+        self.confs.reserve(1)?;
+        self.names.push(name)?;
+        self.confs.push_reserved(conf);
         Ok(())
     }
 }

@@ -3,9 +3,9 @@ ghost use Rattle.std.specs.Prelude.{◌≡◌, ◌+◌, ◌++◌, ◌<◌, Bool,
 ghost use Rattle.uw_outside.specs.Faults.{HasCause};
 ghost use Rattle.uw_model.specs.declared.asks.Ask.TheVariants as asks;
 ghost use Rattle.uw_model.specs.declared.asks.AskAnswer.TheVariants as ask_answers;
-ghost use Rattle.uw_model.specs.Asks.{Asking, Calls, has_died};
+ghost use Rattle.uw_model.specs.Asks.{Asking, Calls, IsOfOneOf, has_died};
 
-use crate::{Answer, Call};
+use crate::{Answer, Ask, AskAnswer, Call};
 use std::alloc::Global;
 use uw_outside::Life;
 
@@ -55,4 +55,28 @@ pub trait Desk {
     /// What led first, and then what led on from there.
     ghost leads_more: { (a b c : Self) (early late : List Asking) (first more : ℕ)
         → leads a b early first → leads b c late more → leads a c (early ++ late) (first + more) };
+}
+
+/// Makes an ask of a desk, at a moment in seconds, as the call of its kind does.
+pub fn make_ask<D: Desk, L: Life>(
+    alloc: Global,
+    desk: &mut D,
+    moment: u64,
+    ask: &Ask,
+    life: &mut L,
+) -> Result<AskAnswer, DeskFault>
+    requires known { IsOfOneOf (D.caches desk.old) ask.now }
+    requires alive { L.alive life.old ≡ true }
+    ensures asked { Calls (λ answer. answer) (D.leads desk.old desk.new) (L.allowances life.old) (L.allowances life.new) moment ask.now result }
+    ensures cause { HasCause (L.deaths life.old) (L.deaths life.new) (has_died result) }
+    ensures alive { L.alive life.new ≡ not (has_died result) }
+    ensures caches { D.caches desk.new ≡ D.caches desk.old }
+    ensures settled { D.settled desk.old ≡ true → has_died result ≡ false → D.settled desk.new ≡ true }
+{
+    match ask {
+        Ask::Cache { cache, call } => match desk.cache(alloc, *cache, moment, call, life) {
+            Ok(answer) => Ok(AskAnswer::Cache(answer)),
+            Err(fault) => Err(fault),
+        },
+    }
 }

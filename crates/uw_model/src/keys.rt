@@ -2,7 +2,7 @@
 ghost use Rattle.std.specs.Prelude.{◌≡◌, ◌<◌, ◌≤◌, ◌∷◌, true, IfSome, MatchOption, remove, slice_index_or, vec_len, vec_capacity};
 ghost use Rattle.uw_model.specs.declared.entries.Entry.{Entry as EntryValue};
 ghost use Rattle.uw_model.specs.Calls.{without};
-ghost use Rattle.uw_model.specs.Keys.{lacks, HaveOwnKeys, IsPlaceOf, restored};
+ghost use Rattle.uw_model.specs.KeySteps.{lacks, HaveOwnKeys, IsPlaceOf, restored};
 
 use crate::Entry;
 

@@ -1,15 +1,20 @@
 //! Laws of the definitions, over all lists and calls. Each is the contract of a function that does nothing.
-ghost use Rattle.std.specs.Prelude.{◌≡◌, ℕ, ℤ, ◌+◌, ◌-◌, ◌^◌, ◌<◌, ◌≤◌, ◌+ℤ◌, ◌↔◌, ◌⊎◌, false, List, [], Some, None, All, IsTrue, IsSomeAnd, length, slice_index_or, fold};
+ghost use Rattle.std.specs.Prelude.{◌≡◌, ℕ, ℤ, ◌+◌, ◌-◌, ◌^◌, ◌<◌, ◌≤◌, ◌+ℤ◌, ◌↔◌, ◌⊎◌, false, List, [], Some, None, All, IsTrue, ◌++◌, slice_get, option_map, IsSomeAnd, length, slice_index_or, fold};
 ghost use Rattle.uw_model.specs.declared.conf.CacheConf.{CacheConf};
 ghost use Rattle.uw_model.specs.declared.entries.Entry.{Entry};
 ghost use Rattle.uw_model.specs.declared.calls.Call.{Call};
 ghost use Rattle.uw_model.specs.declared.calls.MathOp.{MathOp};
 ghost use Rattle.uw_model.specs.declared.calls.Call.TheVariants as calls;
 ghost use Rattle.uw_model.specs.declared.calls.Answer.TheVariants as answers;
-ghost use Rattle.uw_model.specs.Entries.{IsCacheConf, IsState, covers};
+ghost use Rattle.uw_model.specs.Entries.{IsCacheConf, IsState, covers, max_value, span};
 ghost use Rattle.uw_model.specs.Placement.{is_free, first_run, room};
-ghost use Rattle.uw_model.specs.Calls.{answer, next_state, alive_at, dies_at, dies_of_number};
-ghost use Rattle.uw_model.specs.Laws.{is_refusal, IsLeastRun, IsLongestFront, added, AreAdded};
+ghost use Rattle.uw_model.specs.Calls.{answer, next_state, alive_at, bytes_of_number, dies_at, dies_of_number};
+ghost use Rattle.uw_model.specs.ListState.{ListState};
+ghost use Rattle.uw_model.specs.Asks.{Asking, desk_asks};
+ghost use Rattle.uw_model.specs.declared.asks.Asked.{Asked};
+ghost use Rattle.uw_model.specs.Caches.{Lists, LeadsLists, empty_caches};
+ghost use Rattle.uw_model.specs.History.{Answered, answer_at, answer_at_from, history_of, replay, replay_from};
+ghost use Rattle.uw_model.specs.Laws.{is_refusal, IsLeastRun, IsLongestFront, IsWritten, list_after_amounts, TakesAmounts};
 
 /// The empty list is well-formed for every configuration.
 pub fn empty_list_is_a_state()
@@ -105,7 +110,64 @@ pub fn number_is_the_sum_of_the_amounts()
     ensures { (conf : CacheConf) (list : List Entry) (now ttl : ℕ) (key : List ℕ) (before : ℤ) (amounts : List ℤ)
         → now < 2 ^ 64 - 1
         → answer conf list now (calls.Num key) ≡ answers.Number before
-        → AreAdded conf list now key ttl amounts
-        → answer conf (added conf list now key ttl amounts) now (calls.Num key)
+        → TakesAmounts conf list now key ttl amounts
+        → answer conf (list_after_amounts conf list now key ttl amounts) now (calls.Num key)
         ≡ answers.Number (fold ◌+ℤ◌ before amounts) }
+{}
+
+/// Asks that lead from lists to lists leave in each cache the replay of its history, from its list on, and each of them
+/// that counts was answered as the call at its place.
+pub fn asks_leave_the_replay()
+    ensures list { (before now : Lists) (asked : List Asking) (cache : ℕ) (c : ListState)
+        → LeadsLists before asked now → slice_get before.caches cache ≡ Some c
+        → slice_get now.caches cache
+        ≡ Some (record { conf = c.conf; list = replay_from (λ (m : Answered). m.moment) (λ (m : Answered). m.call) c.conf c.list (history_of cache asked) }) }
+    ensures answers { (before now : Lists) (asked : List Asking) (cache place : ℕ) (c : ListState)
+        → LeadsLists before asked now → slice_get before.caches cache ≡ Some c
+        → answer_at_from (λ (m : Answered). m.moment) (λ (m : Answered). m.call) c.conf c.list (history_of cache asked) place
+        ≡ option_map (λ (m : Answered). m.answer) (slice_get (history_of cache asked) place) }
+{}
+
+/// The same of caches that are empty at first.
+pub fn asks_of_empty_caches_leave_the_replay()
+    ensures list { (confs : List CacheConf) (now : Lists) (asked : List Asking) (cache : ℕ) (conf : CacheConf)
+        → LeadsLists (record { caches = empty_caches confs }) asked now → slice_get confs cache ≡ Some conf
+        → slice_get now.caches cache
+        ≡ Some (record { conf = conf; list = replay (λ (m : Answered). m.moment) (λ (m : Answered). m.call) conf (history_of cache asked) }) }
+    ensures answers { (confs : List CacheConf) (now : Lists) (asked : List Asking) (cache place : ℕ) (conf : CacheConf)
+        → LeadsLists (record { caches = empty_caches confs }) asked now → slice_get confs cache ≡ Some conf
+        → answer_at (λ (m : Answered). m.moment) (λ (m : Answered). m.call) conf (history_of cache asked) place
+        ≡ option_map (λ (m : Answered). m.answer) (slice_get (history_of cache asked) place) }
+{}
+
+/// Two lists of asks in a row, at one moment, ask a desk what the one asks and then what the other asks.
+pub fn asks_of_a_desk_add_up()
+    ensures { (moment : ℕ) (early late : List Asked) → desk_asks moment (early ++ late) ≡ desk_asks moment early ++ desk_asks moment late }
+{}
+
+/// A list without entries has room for every value that is not too long.
+pub fn empty_list_has_room()
+    ensures { (conf : CacheConf) (value : List ℕ) (now : ℕ) → IsCacheConf conf → length value ≤ max_value conf
+        → room conf [] (span conf value) now ≡ Some [] }
+{}
+
+/// What a call writes stands at the first run of the list that has room for it, and so there always is one.
+pub fn written_entry_stands_at_the_first_run()
+    ensures set { (conf : CacheConf) (list : List Entry) (now ttl : ℕ) (key value : List ℕ) → IsCacheConf conf
+        → answer conf list now (calls.Set key value ttl) ≡ answers.Done
+        → IsWritten conf list now key value (dies_at now ttl) (next_state conf list now (calls.Set key value ttl)) }
+    ensures update { (conf : CacheConf) (list : List Entry) (now ttl : ℕ) (key value : List ℕ) → IsCacheConf conf
+        → answer conf list now (calls.Update key value ttl) ≡ answers.Done
+        → IsWritten conf list now key value (dies_at now ttl) (next_state conf list now (calls.Update key value ttl)) }
+    ensures math { (conf : CacheConf) (list : List Entry) (now ttl : ℕ) (key : List ℕ) (op : MathOp) (by number : ℤ) → IsCacheConf conf
+        → answer conf list now (calls.Math op key by ttl) ≡ answers.Number number
+        → IsWritten conf list now key (bytes_of_number number) (dies_of_number now ttl (alive_at conf list now key))
+        (next_state conf list now (calls.Math op key by ttl)) }
+{}
+
+/// With `purge_lru` nothing expires: what a set wrote is what a get answers, at every moment.
+pub fn set_value_is_got_at_every_moment_under_purge()
+    ensures { (conf : CacheConf) (list : List Entry) (now later ttl : ℕ) (key value : List ℕ) → IsTrue conf.purge_lru
+        → answer conf list now (calls.Set key value ttl) ≡ answers.Done
+        → answer conf (next_state conf list now (calls.Set key value ttl)) later (calls.Get key) ≡ answers.Value value }
 {}

@@ -21,7 +21,7 @@ pub use asks::{Ask, AskAnswer, Asked};
 pub use cache_list::CacheConfList;
 pub use calls::{Answer, Call, MathOp};
 pub use conf::CacheConf;
-pub use desk::{Desk, DeskFault};
+pub use desk::{Desk, DeskFault, make_ask};
 pub use entries::Entry;
 pub use list_cache::ListCache;
 pub use list_desk::ListDesk;

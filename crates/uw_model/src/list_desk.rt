@@ -10,20 +10,19 @@ use std::marker::Model;
 use uw_base::Memory;
 use uw_outside::Life;
 
-/// A desk over plain lists, which never asks a life: the meaning of a desk as a program. Contracts see the caches, each
-/// with its configuration and its list of entries.
+/// A desk over plain lists, which never asks a life: the meaning of a desk as a program. Contracts see the lists:
+/// of each cache its configuration and its entries.
 #[derive(Drop)]
 pub struct ListDesk {
     caches: Vec<ListCache>,
 }
 
 impl Model for ListDesk {
-    ghost use Rattle.std.specs.Prelude.{List};
-    ghost use Rattle.uw_model.specs.ListState.{ListState};
+    ghost use Rattle.uw_model.specs.Caches.{Lists};
 
-    ghost Value = { List ListState };
+    ghost Value = { Lists };
 
-    ghost view = { λ d. d.caches.items };
+    ghost view = { λ d. record { caches = d.caches.items } };
 }
 
 impl ListDesk {
@@ -31,7 +30,7 @@ impl ListDesk {
     pub fn new(alloc: Global, caches: &CacheConfList) -> Result<ListDesk, Memory>
         requires each { AllByRecursion IsCacheConf caches.now }
         requires few { length caches.now < 2 ^ 32 }
-        ensures { IfOk result (λ desk. desk ≡ empty_caches caches.now) }
+        ensures { IfOk result (λ desk. desk ≡ record { caches = empty_caches caches.now }) }
     {
         let mut desk = ListDesk {
             caches: Vec::new(alloc),
@@ -44,7 +43,7 @@ impl ListDesk {
 }
 
 impl Desk for ListDesk {
-    ghost caches = { λ d. length d };
+    ghost caches = { λ d. length d.caches };
 
     ghost settled = { λ _. true };
 

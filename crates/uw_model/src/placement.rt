@@ -2,7 +2,7 @@
 ghost use Rattle.std.specs.Prelude.{◌≡◌, ◌≤◌, ◌+◌, true, All, Some, MatchOption, IfSome, length, take, is_some, option_map, unwrap_or, vec_len, vec_capacity};
 ghost use Rattle.uw_model.specs.Entries.{IsCacheConf, IsEntry, span};
 ghost use Rattle.uw_model.specs.Placement.{is_alive, alive_of, is_free, first_run, fits, longest_front, room};
-ghost use Rattle.uw_model.specs.Counted.{counts, counted, is_in_the_way, IsBlockedUntil};
+ghost use Rattle.uw_model.specs.PlacementSteps.{counts, counted, is_in_the_way, IsBlockedUntil};
 
 use crate::sizes::end_of;
 use crate::{CacheConf, Entry};

@@ -4,7 +4,7 @@ ghost use Rattle.uw_model.specs.declared.entries.Entry.{Entry as EntryValue};
 ghost use Rattle.uw_model.specs.declared.calls.Call.TheVariants as calls;
 ghost use Rattle.uw_model.specs.Entries.{IsCacheConf, IsState};
 ghost use Rattle.uw_model.specs.Calls.{answer, next_state, written, alive_at, got};
-ghost use Rattle.uw_model.specs.Keys.{HaveOwnKeys, IsAlivePlace};
+ghost use Rattle.uw_model.specs.KeySteps.{HaveOwnKeys, IsAlivePlace};
 
 use crate::keys::{move_to_front, place_of, put_back, put_in_front, take_out};
 use crate::numbers::{Reckoning, dies_of_number, is_zero_division, number_at, result_of};

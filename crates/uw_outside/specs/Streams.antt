@@ -21,11 +21,13 @@ Gives before now bytes = now ≡ option_map (λ taken. taken ++ bytes) before
 abbrev pub IsExhausted : Option (List ℕ) → Type 0
 IsExhausted left = IfSome left (λ bytes. bytes ≡ [])
 
+-- a read answered the end
 abbrev pub is_end : Got → Bool
 is_end (got.Count n) = false
 is_end got.End = true
 is_end got.Failed = false
 
+-- a read failed
 abbrev pub is_failed : Got → Bool
 is_failed (got.Count n) = false
 is_failed got.End = false
@@ -42,6 +44,7 @@ pub record Ends (before now : Bool) (answer : Got) : Type 0 where
   pub stays : before ≡ true → is_end answer ≡ true
   pub last : now ≡ is_end answer
 
+-- a write failed
 abbrev pub has_failed : Put → Bool
 has_failed (put.Count n) = false
 has_failed put.Failed = true
@@ -68,3 +71,26 @@ abbrev pub FillsBy : List ℕ → Option (List ℕ) → Bool → ℕ → ℕ →
 FillsBy buffer left ended before now filled.Whole = Unit {0}
 FillsBy buffer left ended before now (filled.Short n) = (n < length buffer) × (ended ≡ true) × IsExhausted left
 FillsBy buffer left ended before now (filled.Failed n) = (n < length buffer) × Rose before now
+
+-- a source over a call: what it had and has left, whether it is at its end now, and its count of faults before and now
+pub record Inflow : Type 0 where
+  pub before : Option (List ℕ)
+  pub now : Option (List ℕ)
+  pub ended : Bool
+  pub faults_before : ℕ
+  pub faults_now : ℕ
+
+-- a source over a call, from its state before it and its state after it: `left`, `ended` and `faults` read a state
+abbrev pub inflow : {S : Type 0} → (S → Option (List ℕ)) → (S → Bool) → (S → ℕ) → S → S → Inflow
+inflow left ended faults old new = record { before = left old; now = left new; ended = ended new; faults_before = faults old; faults_now = faults new }
+
+-- a sink over a call: what it had and has taken, and its count of faults before and now
+pub record Outflow : Type 0 where
+  pub before : Option (List ℕ)
+  pub now : Option (List ℕ)
+  pub faults_before : ℕ
+  pub faults_now : ℕ
+
+-- a sink over a call, from its state before it and its state after it: `taken` and `faults` read a state
+abbrev pub outflow : {K : Type 0} → (K → Option (List ℕ)) → (K → ℕ) → K → K → Outflow
+outflow taken faults old new = record { before = taken old; now = taken new; faults_before = faults old; faults_now = faults new }

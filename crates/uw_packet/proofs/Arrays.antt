@@ -4,7 +4,7 @@ use Rattle.std.proofs.lemmas.Bool.{lt-leb}
 use Rattle.std.proofs.lemmas.List.{append-nil}
 use Rattle.uw_base.specs.declared.variables.Pair.{Pair}
 use Rattle.uw_packet.specs.Blocks.{texts_of_pairs, texts_front, array_read, pairs_of_texts, vars_read}
-use Rattle.uw_packet.specs.BlockReads.{first_text}
+use Rattle.uw_packet.specs.BlockSteps.{first_text}
 
 -- how many bytes the first text has, as its two bytes of length say
 abbrev pub text_length : ℕ → ℕ → ℕ

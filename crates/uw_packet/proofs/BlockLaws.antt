@@ -8,7 +8,8 @@ use Rattle.std.proofs.lemmas.List.{append-nil, length-take-le, take-append-drop,
 use Rattle.uw_base.specs.declared.variables.Pair.{Pair}
 use Rattle.uw_packet.specs.declared.packet.Header.{Header}
 use Rattle.uw_packet.specs.Blocks.{sized, array_of, AreShort, texts_of_pairs, IsArrayBlock, IsVarsBlock, BreaksAt, array_read, pairs_of_texts, vars_read}
-use Rattle.uw_packet.specs.BlockReads.{AreBytes, first_text, vars_block}
+use Rattle.uw_packet.specs.BlockReads.{AreBytes, vars_block}
+use Rattle.uw_packet.specs.BlockSteps.{first_text}
 use Rattle.uw_packet.specs.Packet.{IsPacket}
 use Rattle.uw_packet.proofs.Arrays.{text_length, chosen_some, array_front, array_front-some, array_front-none, length-first_text, array_read-whole, array_read-broken, vars_read-whole}
 

@@ -11,7 +11,8 @@ use Rattle.uw_packet.specs.declared.packet.PacketFault.TheVariants as faults
 use Rattle.uw_packet.specs.BlockReads.{AreBytes}
 use Rattle.uw_packet.specs.Packet.{header_bytes, IsPacket}
 use Rattle.uw_packet.specs.PacketFront.{block_front, packet_front, AnswersFront}
-use Rattle.uw_packet.specs.Reads.{Reading, IsOver, IsCutInBlock, HasHeader, ReadsPacket}
+use Rattle.uw_outside.specs.Streams.{Inflow}
+use Rattle.uw_packet.specs.Reads.{IsOver, IsCutInBlock, HasHeader, ReadsPacket}
 use Rattle.uw_packet.proofs.Arrays.{text_length}
 use Rattle.uw_packet.proofs.BlockLaws.{text_length-bytes, byte_at-text_length}
 
@@ -83,7 +84,7 @@ told before None bytes taken is takes = absurd (cc (is, takes))
 told before (Some rest) bytes taken is takes = (rest, refl, some_same bytes (taken ++ rest) (sym is ∙ takes))
 
 -- all of them, where the source is at its end
-told_all : (r : Reading) (bytes taken : List ℕ) → r.before ≡ Some bytes → Takes r.before r.now taken → IsOver r → bytes ≡ taken
+told_all : (r : Inflow) (bytes taken : List ℕ) → r.before ≡ Some bytes → Takes r.before r.now taken → IsOver r → bytes ≡ taken
 told_all r bytes taken is takes over =
     let t = told r.before r.now bytes taken is takes in
     let nothing : t.0 ≡ [] = rw t.1 at over.1 in
@@ -98,12 +99,12 @@ front_of_few limit (a ∷ b ∷ c ∷ []) got count some few = ap (λ (n : ℕ).
 front_of_few limit (a ∷ b ∷ c ∷ d ∷ bytes) got count some few = absurd (omega arith)
 
 -- what stands at the front of bytes from which a header and more were taken
-front_behind : (r : Reading) (limit : ℕ) (head : Header) (bytes taken : List ℕ) → r.before ≡ Some bytes → HasHeader r head taken → (rest : List ℕ) × (r.now ≡ Some rest) × (packet_front limit bytes ≡ block_front limit head (taken ++ rest))
+front_behind : (r : Inflow) (limit : ℕ) (head : Header) (bytes taken : List ℕ) → r.before ≡ Some bytes → HasHeader r head taken → (rest : List ℕ) × (r.now ≡ Some rest) × (packet_front limit bytes ≡ block_front limit head (taken ++ rest))
 front_behind r limit head bytes taken is has =
     let t = told r.before r.now bytes (header_bytes head ++ taken) is has.taken in
     (t.0, t.1, ap (packet_front limit) t.2 ∙ packet_front-header limit head (taken ++ t.0) has.fits)
 
-cut_in_block : (r : Reading) (limit got want : ℕ) (bytes : List ℕ) → r.before ≡ Some bytes → IsCutInBlock r limit got want → packet_front limit bytes ≡ Err (faults.Truncated got want)
+cut_in_block : (r : Inflow) (limit got want : ℕ) (bytes : List ℕ) → r.before ≡ Some bytes → IsCutInBlock r limit got want → packet_front limit bytes ≡ Err (faults.Truncated got want)
 cut_in_block r limit got want bytes is cut =
     let head = cut.begun.0 in
     let taken = cut.begun.1 in
@@ -115,7 +116,7 @@ cut_in_block r limit got want bytes is cut =
     ∙ ap (λ (n : ℕ). Err (faults.Truncated n head.size)) cut.begun.3
     ∙ ap (λ (n : ℕ). Err (faults.Truncated got n)) cut.begun.2
 
-pub AnswersFront-read : (r : Reading) (limit : ℕ) (bytes : List ℕ) (answer : Result (Option Packet) PacketFault) → r.before ≡ Some bytes → ReadsPacket r limit answer → AnswersFront r (packet_front limit bytes) answer
+pub AnswersFront-read : (r : Inflow) (limit : ℕ) (bytes : List ℕ) (answer : Result (Option Packet) PacketFault) → r.before ≡ Some bytes → ReadsPacket r limit answer → AnswersFront r (packet_front limit bytes) answer
 AnswersFront-read r limit bytes (Ok None) is read =
     ap (packet_front limit) (told_all r bytes [] is read.0 read.1)
 AnswersFront-read r limit bytes (Ok (Some packet)) is read =

@@ -10,14 +10,6 @@ use Rattle.uw_packet.specs.declared.packet.PacketFault.TheVariants as faults
 abbrev pub AreBytes : List ℕ → Type 0
 AreBytes bytes = AllByRecursion (λ byte. byte < 256) bytes
 
--- the first sized text of the bytes and what is behind it, where it is whole
-abbrev pub first_text : List ℕ → Option (List ℕ × List ℕ)
-first_text [] = None
-first_text (a ∷ []) = None
-first_text (low ∷ high ∷ bytes) =
-    if nat_le (low + 256 * high) (length bytes) then Some (take (low + 256 * high) bytes, drop (low + 256 * high) bytes)
-    else None
-
 -- what is read from a block is what it holds, or else the place of its fault; only want of memory is free
 abbrev pub ReadsFrom : {T : Type 0} → Result T ℕ → Result T PacketFault → Type 0
 ReadsFrom held (Ok value) = held ≡ Ok value

@@ -3,3 +3,4 @@ pub mod Blocks
 pub mod Reads
 pub mod BlockReads
 pub mod PacketFront
+pub mod BlockSteps

@@ -4,7 +4,7 @@ use Rattle.uw_packet.specs.declared.packet.Header.{Header}
 use Rattle.uw_packet.specs.declared.packet.Packet.{Packet}
 use Rattle.uw_packet.specs.declared.packet.PacketFault.{PacketFault}
 use Rattle.uw_packet.specs.declared.packet.PacketFault.TheVariants as faults
-use Rattle.uw_packet.specs.Reads.{Reading}
+use Rattle.uw_outside.specs.Streams.{Inflow}
 
 -- behind a header: a size above the limit is refused first; else the block and the rest, where the block is whole
 abbrev pub block_front : ℕ → Header → List ℕ → Result (Option (Packet × List ℕ)) PacketFault
@@ -22,7 +22,7 @@ packet_front limit (a ∷ b ∷ c ∷ []) = Err (faults.Truncated 3 4)
 packet_front limit (m1 ∷ low ∷ high ∷ m2 ∷ bytes) = block_front limit (record { m1 = m1; size = low + 256 * high; m2 = m2 }) bytes
 
 -- an answer is what stands at the front, and the rest is left; only a failed read and want of memory come besides
-abbrev pub AnswersFront : Reading → Result (Option (Packet × List ℕ)) PacketFault → Result (Option Packet) PacketFault → Type 0
+abbrev pub AnswersFront : Inflow → Result (Option (Packet × List ℕ)) PacketFault → Result (Option Packet) PacketFault → Type 0
 AnswersFront r front (Ok None) = front ≡ Ok None
 AnswersFront r front (Ok (Some packet)) = (rest : List ℕ) × (r.now ≡ Some rest) × (front ≡ Ok (Some (packet, rest)))
 AnswersFront r front (Err faults.ReadFault) = Unit {0}

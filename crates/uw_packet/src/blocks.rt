@@ -1,7 +1,8 @@
 // Array blocks and vars blocks.
 ghost use Rattle.std.specs.Prelude.{◌≡◌, ◌+◌, ◌-◌, ◌^◌, ◌<◌, ◌≤◌, ◌++◌, Some, None, length, IfOk, IfErr, MatchOption};
 ghost use Rattle.std.specs.Bool.{OnFalse, OnTrue};
-ghost use Rattle.uw_packet.specs.BlockReads.{ReadsFrom, first_text, vars_block};
+ghost use Rattle.uw_packet.specs.BlockReads.{ReadsFrom, vars_block};
+ghost use Rattle.uw_packet.specs.BlockSteps.{first_text};
 ghost use Rattle.uw_packet.specs.Blocks.{array_read, sized, vars_read};
 
 use crate::PacketFault;

@@ -5,7 +5,8 @@ ghost use Rattle.uw_packet.specs.BlockReads.{AreBytes, vars_block};
 ghost use Rattle.uw_packet.specs.Blocks.{AreShort, BreaksAt, IsArrayBlock, IsVarsBlock, array_of, array_read, texts_of_pairs, vars_read};
 ghost use Rattle.uw_packet.specs.Packet.{IsPacket};
 ghost use Rattle.uw_packet.specs.PacketFront.{AnswersFront, packet_front};
-ghost use Rattle.uw_packet.specs.Reads.{Reading, ReadsPacket};
+ghost use Rattle.uw_outside.specs.Streams.{Inflow};
+ghost use Rattle.uw_packet.specs.Reads.{ReadsPacket};
 ghost use Rattle.uw_packet.specs.declared.packet.Header.{Header};
 ghost use Rattle.uw_packet.specs.declared.packet.Packet.{Packet};
 ghost use Rattle.uw_packet.specs.declared.packet.PacketFault.{PacketFault};
@@ -59,7 +60,7 @@ pub fn packet_is_unique()
 /// Over a source that tells what it has, a packet that is read, and every refusal but a failed read
 /// and want of memory, is what stands at the front of the bytes.
 pub fn answers_are_the_front()
-    ensures { (r : Reading) (limit : ℕ) (bytes : List ℕ) (answer : Result (Option Packet) PacketFault) → r.before ≡ Some bytes → ReadsPacket r limit answer → AnswersFront r (packet_front limit bytes) answer }
+    ensures { (r : Inflow) (limit : ℕ) (bytes : List ℕ) (answer : Result (Option Packet) PacketFault) → r.before ≡ Some bytes → ReadsPacket r limit answer → AnswersFront r (packet_front limit bytes) answer }
 {}
 
 /// A packet stands at the front exactly where the bytes begin with a packet whose block is within the limit.

@@ -1,5 +1,6 @@
 // Headers, blocks and bodies, as they come from a source.
 ghost use Rattle.std.specs.Prelude.{◌≡◌, ◌≤◌};
+ghost use Rattle.uw_outside.specs.Streams.{inflow};
 ghost use Rattle.uw_packet.specs.Packet.{header_bytes};
 ghost use Rattle.uw_packet.specs.Reads.{ReadsBlock, ReadsHeader, ReadsPacket, SkipsBody};
 
@@ -25,13 +26,7 @@ fn header_of(bytes: &[u8; 4]) -> Header
 
 /// Reads a header, four bytes. `None` where the source is at its end.
 pub fn read_header<S: Source>(src: &mut S) -> Result<Option<Header>, PacketFault>
-    ensures header { ReadsHeader (record {
-      before = S.left src.old;
-      now = S.left src.new;
-      ended = S.ended src.new;
-      faults_before = S.faults src.old;
-      faults_now = S.faults src.new;
-    }) result }
+    ensures header { ReadsHeader (inflow S.left S.ended S.faults src.old src.new) result }
     ensures later { S.faults src.old ≤ S.faults src.new }
 {
     let mut bytes = [0; 4];
@@ -48,13 +43,7 @@ pub fn read_header<S: Source>(src: &mut S) -> Result<Option<Header>, PacketFault
 
 /// Reads the block behind a header, just `size` bytes. The memory is taken before the first read.
 pub fn read_block<S: Source>(alloc: Global, src: &mut S, size: u16) -> Result<Bytes, PacketFault>
-    ensures block { ReadsBlock (record {
-      before = S.left src.old;
-      now = S.left src.new;
-      ended = S.ended src.new;
-      faults_before = S.faults src.old;
-      faults_now = S.faults src.new;
-    }) size result }
+    ensures block { ReadsBlock (inflow S.left S.ended S.faults src.old src.new) size result }
     ensures later { S.faults src.old ≤ S.faults src.new }
 {
     let mut block = vec![in alloc; 0u8; usize::from(size)].map_err(|_| PacketFault::Memory)?;
@@ -70,13 +59,7 @@ pub fn read_block<S: Source>(alloc: Global, src: &mut S, size: u16) -> Result<By
 
 /// Takes just `len` bytes, a body, and drops them.
 pub fn skip_body<S: Source>(src: &mut S, len: u64) -> Result<(), PacketFault>
-    ensures body { SkipsBody (record {
-      before = S.left src.old;
-      now = S.left src.new;
-      ended = S.ended src.new;
-      faults_before = S.faults src.old;
-      faults_now = S.faults src.new;
-    }) len result }
+    ensures body { SkipsBody (inflow S.left S.ended S.faults src.old src.new) len result }
     ensures later { S.faults src.old ≤ S.faults src.new }
 {
     let mut piece = [0; PIECE];
@@ -104,13 +87,7 @@ pub fn read_packet<S: Source>(
     src: &mut S,
     limit: u32,
 ) -> Result<Option<Packet>, PacketFault>
-    ensures packet { ReadsPacket (record {
-      before = S.left src.old;
-      now = S.left src.new;
-      ended = S.ended src.new;
-      faults_before = S.faults src.old;
-      faults_now = S.faults src.new;
-    }) limit result }
+    ensures packet { ReadsPacket (inflow S.left S.ended S.faults src.old src.new) limit result }
     ensures later { S.faults src.old ≤ S.faults src.new }
 {
     let Some(head) = read_header(src)? else {

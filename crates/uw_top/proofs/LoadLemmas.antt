@@ -25,12 +25,12 @@ use Rattle.uw_ends.specs.declared.ends.RunFault.{RunFault}
 use Rattle.uw_ends.specs.declared.ends.RunFault.TheVariants as faults
 use Rattle.uw_top.specs.declared.load.Figures.{Figures}
 use Rattle.uw_top.specs.declared.server.Replied.{Replied}
-use Rattle.uw_top.specs.Outputs.{Writing}
+use Rattle.uw_outside.specs.Streams.{Outflow}
 use Rattle.uw_top.specs.Exchange.{Exchange, asked_by, broken_at, names_of, reply_of, refusal_of, IsAnswered}
 use Rattle.uw_top.specs.Pipe.{caches_from}
-use Rattle.uw_top.specs.Turns.{RepliesTo}
+use Rattle.uw_top.specs.PipeSteps.{RepliesTo}
 use Rattle.uw_top.specs.Load.{LoadEndsBy, LoadRun, block_for, figures_from, figures_text, head_for, next_number, no_figures, packet_for, packets_from, variables_for, with_reply}
-use Rattle.uw_top.specs.Loading.{AnswersNumber, IsLoaded, WritesText, number_after}
+use Rattle.uw_top.specs.LoadSteps.{AnswersNumber, IsLoaded, WritesText, number_after}
 use Rattle.uw_top.proofs.Packets.{caches_from-push}
 
 -- ---- the block of a generated packet
@@ -196,7 +196,7 @@ one_loaded gave gave_more conf turned first number next held after f g clock mid
 -- ---- how a load ends
 
 -- a sink in which nothing was written
-abbrev pub unwritten : Option (List ℕ) → ℕ → Writing
+abbrev pub unwritten : Option (List ℕ) → ℕ → Outflow
 unwritten taken faults = record { before = taken; now = taken; faults_before = faults; faults_now = faults }
 
 -- a packet was not answered
@@ -235,7 +235,7 @@ load_stops gave gave_more conf turned first number next count held after f taken
 
 -- all packets were answered, and this was written
 all_loaded : {Clk : Type 0} (gave : Clk → Clk → List ℕ → Type 0)
-    (conf : Conf) (first number count : ℕ) (held : List ListState) (f : Figures) (w : Writing) (clock mid : Clk) (served : ℕ) (part : List ℕ) (fault : Option RunFault)
+    (conf : Conf) (first number count : ℕ) (held : List ListState) (f : Figures) (w : Outflow) (clock mid : Clk) (served : ℕ) (part : List ℕ) (fault : Option RunFault)
     → served ≡ count → (s : IsLoaded conf first number held f (gave clock mid) served) → Gives w.before w.now part
     → LoadEndsBy conf (record { first = first; count = count; snk = w; moments = s.moments; late = []; part = part }) fault
     → LoadRun conf first count w (gave clock mid) fault
@@ -252,7 +252,7 @@ all_loaded gave conf first number count held f w clock mid served part fault all
 
 -- all packets were answered, and their figures were to be written
 pub load_ends : {Clk : Type 0} (gave : Clk → Clk → List ℕ → Type 0)
-    (conf : Conf) (first number count : ℕ) (held : List ListState) (f : Figures) (w : Writing) (clock mid : Clk) (served : ℕ) (fault : Option RunFault)
+    (conf : Conf) (first number count : ℕ) (held : List ListState) (f : Figures) (w : Outflow) (clock mid : Clk) (served : ℕ) (fault : Option RunFault)
     → served ≡ count → IsLoaded conf first number held f (gave clock mid) served → WritesText (figures_text f) w fault
     → LoadRun conf first count w (gave clock mid) fault
 load_ends gave conf first number count held f w clock mid served None all s t =

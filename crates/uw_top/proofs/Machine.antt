@@ -5,7 +5,7 @@ use Rattle.std.proofs.lemmas.Grind.{flat_map-append}
 use Rattle.std.proofs.lemmas.Bool.Decides.{nat_tests}
 use Rattle.uw_outside.specs.Streams.{Takes}
 use Rattle.uw_outside.proofs.Streams.{Takes-none, Takes-append, Gives-none, Gives-append}
-use Rattle.uw_packet.specs.Reads.{Reading}
+use Rattle.uw_outside.specs.Streams.{Inflow}
 use Rattle.uw_model.specs.ListState.{ListState}
 use Rattle.uw_model.specs.Caches.{empty_caches}
 use Rattle.uw_conf.specs.declared.conf.Conf.{Conf}
@@ -13,10 +13,10 @@ use Rattle.uw_conf.proofs.SizeLemmas.{AllByRecursion-push}
 use Rattle.uw_ends.specs.declared.ends.Brief.{Brief}
 use Rattle.uw_ends.specs.declared.ends.RunFault.{RunFault}
 use Rattle.uw_ends.specs.declared.ends.RunFault.TheVariants as faults
-use Rattle.uw_top.specs.Outputs.{Writing}
+use Rattle.uw_outside.specs.Streams.{Outflow}
 use Rattle.uw_top.specs.Exchange.{Exchange, packet_bytes, reply_of, frame_of, IsAnswered}
 use Rattle.uw_top.specs.Pipe.{bytes_of, frames_from, caches_from, moments_of, brief_of, EndsBy, PipeRun, most_packets}
-use Rattle.uw_top.specs.Turns.{SoFar, Goes, Stops, LooksFurther}
+use Rattle.uw_top.specs.PipeSteps.{SoFar, Goes, Stops, LooksFurther}
 use Rattle.uw_top.proofs.Packets.{caches_from-push}
 use Rattle.uw_top.proofs.Taking.{rose_since}
 
@@ -235,8 +235,8 @@ pub turn_ends : {Clk : Type 0} (gave : Clk → Clk → List ℕ → Type 0)
     → PipeRun conf (record { before = left; now = now; ended = ended; faults_before = f0; faults_now = f2 })
     (record { before = taken; now = taken_now; faults_before = s0; faults_now = s2 }) (gave clock later) told_now fault
 turn_ends gave gave_more conf turned held told told_now left middle now taken between taken_now clock mid later ended f0 f1 f2 s0 s1 s2 turns fault lf ls few same s t =
-    let src : Reading = record { before = middle; now = now; ended = ended; faults_before = f1; faults_now = f2 } in
-    let snk : Writing = record { before = between; now = taken_now; faults_before = s1; faults_now = s2 } in
+    let src : Inflow = record { before = middle; now = now; ended = ended; faults_before = f1; faults_now = f2 } in
+    let snk : Outflow = record { before = between; now = taken_now; faults_before = s1; faults_now = s2 } in
     let stops = subst (λ (c : Conf). Stops c held src snk (gave mid later) fault) same t.1 in
     subst
     (λ (briefs : List Brief). PipeRun conf (record { before = left; now = now; ended = ended; faults_before = f0; faults_now = f2 })
@@ -254,7 +254,7 @@ pub turn_goes : {Clk : Type 0} (gave : Clk → Clk → List ℕ → Type 0)
     (record { before = between; now = taken_now; faults_before = s0; faults_now = s1 }) (gave mid later)
     → SoFar conf after told_now left now taken taken_now (gave clock later) (turns + 1)
 turn_goes gave gave_more conf turned held after told told_now left middle now taken between taken_now clock mid later ended f0 f1 s0 s1 turns same s t =
-    let src : Reading = record { before = middle; now = now; ended = ended; faults_before = f0; faults_now = f1 } in
-    let snk : Writing = record { before = between; now = taken_now; faults_before = s0; faults_now = s1 } in
+    let src : Inflow = record { before = middle; now = now; ended = ended; faults_before = f0; faults_now = f1 } in
+    let snk : Outflow = record { before = between; now = taken_now; faults_before = s0; faults_now = s1 } in
     one_more gave gave_more conf held after told told_now left middle now taken between taken_now clock mid later ended f0 f1 s0 s1 turns s
     (subst (λ (c : Conf). Goes c held after told told_now src snk (gave mid later)) same t)

@@ -10,7 +10,7 @@ use Rattle.uw_packet.specs.Packet.{header_bytes}
 use Rattle.uw_packet.specs.Reads.{ReadsBlock}
 use Rattle.uw_conf.specs.declared.conf.Conf.{Conf}
 use Rattle.uw_top.specs.Exchange.{refusal_of}
-use Rattle.uw_top.specs.Turns.{TakesPacket, fault_of}
+use Rattle.uw_top.specs.PipeSteps.{TakesPacket, fault_of}
 
 -- a count that rose since a moment rose since every earlier one
 pub rose_since : (before middle now : ℕ) → before ≤ middle → Rose middle now → Rose before now

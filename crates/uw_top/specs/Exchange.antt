@@ -12,7 +12,7 @@ use Rattle.uw_conf.specs.declared.conf.Conf.{Conf}
 use Rattle.uw_cachecmd.specs.declared.commands.CmdFault.{CmdFault}
 use Rattle.uw_cachecmd.specs.declared.commands.CmdFault.TheVariants as commands
 use Rattle.uw_cachecmd.specs.Commands.{ask_of}
-use Rattle.uw_cachecmd.specs.Replies.{reply_text, fault_text}
+use Rattle.uw_cachecmd.specs.Replies.{reply_text, refusal_reply}
 use Rattle.uw_ends.specs.declared.ends.BadPacket.{BadPacket}
 use Rattle.uw_ends.specs.declared.ends.BadPacket.TheVariants as bad
 
@@ -66,7 +66,7 @@ replied caches now m2 (Ok (asks.Cache cache call)) = record {
   answer = Some (answer_in caches cache now call);
   caches = caches_after caches cache now call;
 }
-replied caches now m2 (Err fault) = record { text = fault_text m2 fault; answer = None; caches = caches }
+replied caches now m2 (Err fault) = record { text = refusal_reply m2 fault; answer = None; caches = caches }
 
 -- the reply to a packet
 abbrev pub reply_of : Conf → List ListState → Exchange → Reply

@@ -1,8 +1,8 @@
-pub mod Outputs
 pub mod Exchange
 pub mod Pipe
 pub mod Load
 pub mod Run
-pub mod Turns
-pub mod Loading
-pub mod Server
+pub mod PipeSteps
+pub mod LoadSteps
+pub mod ServerSteps
+pub mod RunSteps

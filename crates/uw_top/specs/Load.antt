@@ -15,7 +15,7 @@ use Rattle.uw_conf.specs.declared.conf.Conf.{Conf}
 use Rattle.uw_ends.specs.declared.ends.RunFault.{RunFault}
 use Rattle.uw_ends.specs.declared.ends.RunFault.TheVariants as faults
 use Rattle.uw_top.specs.declared.load.Figures.{Figures}
-use Rattle.uw_top.specs.Outputs.{Writing}
+use Rattle.uw_outside.specs.Streams.{Outflow}
 use Rattle.uw_top.specs.Exchange.{Exchange, reply_of, refusal_of, IsAnswered}
 
 -- the next number of the generator
@@ -40,9 +40,11 @@ variables_for x =
     ∷ record { key = codes "key"; value = codes "k" ++ decimal (x / 256 % 256) }
     ∷ values_for (x / 65536 % 8) x
 
+-- the block of the packet that a number makes
 abbrev pub block_for : ℕ → List ℕ
 block_for x = array_of (texts_of_pairs (variables_for x))
 
+-- the header of the packet that a number makes
 abbrev pub head_for : ℕ → Header
 head_for x = record { m1 = 111; size = length (block_for x); m2 = 200 }
 
@@ -96,7 +98,7 @@ pub record LoadEnding : Type 0 where
   -- its first number, and how many packets it has
   pub first : ℕ
   pub count : ℕ
-  pub snk : Writing
+  pub snk : Outflow
   -- the moments of the packets that were answered, and those given behind them
   pub moments : List ℕ
   pub late : List ℕ
@@ -116,7 +118,7 @@ LoadEndsBy conf e (Some faults.Memory) = (e.part ≡ []) × (length e.late ≤ 1
 LoadEndsBy conf e (Some _) = ⊥
 
 -- what a load wrote into its sink and was told by its clock, and how it ended
-pub record LoadRun (conf : Conf) (first count : ℕ) (snk : Writing) (gave : List ℕ → Type 0) (fault : Option RunFault) : Type 0 where
+pub record LoadRun (conf : Conf) (first count : ℕ) (snk : Outflow) (gave : List ℕ → Type 0) (fault : Option RunFault) : Type 0 where
   pub moments : List ℕ
   pub late : List ℕ
   pub part : List ℕ

@@ -5,7 +5,8 @@ use Rattle.uw_outside.specs.Faults.{Rose}
 use Rattle.uw_outside.specs.Streams.{Takes, Gives}
 use Rattle.uw_packet.specs.declared.packet.Header.{Header}
 use Rattle.uw_packet.specs.Packet.{header_bytes}
-use Rattle.uw_packet.specs.Reads.{Reading, IsOver}
+use Rattle.uw_outside.specs.Streams.{Inflow}
+use Rattle.uw_packet.specs.Reads.{IsOver}
 use Rattle.uw_model.specs.ListState.{ListState}
 use Rattle.uw_model.specs.Caches.{empty_caches}
 use Rattle.uw_conf.specs.declared.conf.Conf.{Conf}
@@ -14,7 +15,7 @@ use Rattle.uw_ends.specs.declared.ends.Brief.{Brief}
 use Rattle.uw_ends.specs.declared.ends.RunFault.{RunFault}
 use Rattle.uw_ends.specs.declared.ends.BadPacket.TheVariants as bad
 use Rattle.uw_ends.specs.declared.ends.RunFault.TheVariants as faults
-use Rattle.uw_top.specs.Outputs.{Writing}
+use Rattle.uw_outside.specs.Streams.{Outflow}
 use Rattle.uw_top.specs.Exchange.{Exchange, packet_bytes, refusal_of, broken_at, asked_by, reply_of, frame_of, IsAnswered}
 
 -- the most packets of a run
@@ -35,6 +36,7 @@ abbrev pub caches_from : Conf → List ListState → List Exchange → List List
 caches_from conf caches [] = caches
 caches_from conf caches (x ∷ xs) = caches_from conf (reply_of conf caches x).caches xs
 
+-- the moments of packets
 abbrev pub moments_of : List Exchange → List ℕ
 moments_of xs = map (λ x. x.moment) xs
 
@@ -69,8 +71,8 @@ IsUnwritten conf caches moment bytes part =
 -- how the packets of a run came to their end
 pub record Ending : Type 0 where
   -- the source and the sink in this run
-  pub src : Reading
-  pub snk : Writing
+  pub src : Inflow
+  pub snk : Outflow
   -- how many packets were answered, and the caches after them
   pub count : ℕ
   pub caches : List ListState
@@ -96,7 +98,7 @@ EndsBy conf e (Some faults.TooMany) = (e.count ≡ most_packets) × (length e.re
 EndsBy conf e (Some _) = ⊥
 
 -- what a run took from its source, wrote into its sink and was told by its clock, and how it ended: these packets were answered
-pub record PipeRun (conf : Conf) (src : Reading) (snk : Writing) (gave : List ℕ → Type 0) (told : List Brief) (fault : Option RunFault) : Type 0 where
+pub record PipeRun (conf : Conf) (src : Inflow) (snk : Outflow) (gave : List ℕ → Type 0) (told : List Brief) (fault : Option RunFault) : Type 0 where
   pub packets : List Exchange
   pub rest : List ℕ
   pub part : List ℕ

@@ -2,7 +2,8 @@
 use Rattle.std.specs.Prelude.{◌≡◌, ℕ, ◌+◌, ◌==◌, ◌≤◌, ◌⊎◌, Bool, true, false, if◌then◌else◌, List, [], ◌∷◌, length, Option, None, Some, Result, Ok, Err}
 use Rattle.uw_outside.specs.Faults.{Rose}
 use Rattle.uw_outside.specs.Streams.{Takes}
-use Rattle.uw_packet.specs.Reads.{Reading, IsOver}
+use Rattle.uw_outside.specs.Streams.{Inflow}
+use Rattle.uw_packet.specs.Reads.{IsOver}
 use Rattle.uw_conf.specs.declared.conf.Conf.{Conf}
 use Rattle.uw_conf.specs.declared.conf.ConfFault.{ConfFault}
 use Rattle.uw_conf.specs.declared.conf.ConfKind.TheVariants as kinds
@@ -28,32 +29,20 @@ with_a_cache (Err fault) = Err fault
 with_a_cache (Ok conf) = if length conf.caches == 0 then Err (refused_at 0 kinds.Missing) else Ok conf
 
 -- these bytes are all that was read of a configuration's text: up to its end, or up to the first byte that is too many
-pub record ReadsText (r : Reading) (text : List ℕ) : Type 0 where
+pub record ReadsText (r : Inflow) (text : List ℕ) : Type 0 where
   pub taken : Takes r.before r.now text
   pub few : length text ≤ most_text_bytes + 1
   pub whole : length text ≤ most_text_bytes → IsOver r
 
 -- why a command did not begin: its configuration is refused, or could not be read, or there was no memory
-abbrev pub IsNotBegun : (List ℕ → Result Conf ConfFault) → Reading → Option RunFault → Type 0
+abbrev pub IsNotBegun : (List ℕ → Result Conf ConfFault) → Inflow → Option RunFault → Type 0
 IsNotBegun said r (Some (faults.Conf fault)) = (text : List ℕ) × ReadsText r text × (said text ≡ Err fault)
 IsNotBegun said r (Some faults.ReadFault) = Rose r.faults_before r.faults_now × ((text : List ℕ) × Takes r.before r.now text × (length text ≤ most_text_bytes))
 IsNotBegun said r (Some faults.Memory) = (text : List ℕ) × Takes r.before r.now text × (length text ≤ most_text_bytes + 1)
 IsNotBegun said r _ = ⊥
 
 -- a command over the configuration that a text says, of whose run this holds; or it did not begin, and left all else as it was
-abbrev pub Runs : (List ℕ → Result Conf ConfFault) → Reading → Type 0 → Option RunFault → (Conf → Type 0) → Type 0
+abbrev pub Runs : (List ℕ → Result Conf ConfFault) → Inflow → Type 0 → Option RunFault → (Conf → Type 0) → Type 0
 Runs said r untouched fault Ran =
     ((text : List ℕ) × (conf : Conf) × ReadsText r text × (said text ≡ Ok conf) × Ran conf)
     ⊎ (IsNotBegun said r fault × untouched)
-
--- a configuration was read, or why it was not
-abbrev pub GivesConf : (List ℕ → Result Conf ConfFault) → Reading → Result Conf RunFault → Type 0
-GivesConf said r (Ok conf) = (text : List ℕ) × ReadsText r text × (said text ≡ Ok conf)
-GivesConf said r (Err fault) = IsNotBegun said r (Some fault)
-
--- what is made of a text: what it says, or its refusal; want of memory is free
-abbrev pub Says : Result Conf ConfFault → Result Conf RunFault → Type 0
-Says said (Ok conf) = said ≡ Ok conf
-Says said (Err (faults.Conf fault)) = said ≡ Err fault
-Says said (Err faults.Memory) = Unit {0}
-Says said (Err _) = ⊥

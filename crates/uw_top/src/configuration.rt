@@ -1,8 +1,10 @@
 // The configuration of a run, read from a source of its own.
 ghost use Rattle.std.specs.Prelude.{◌≡◌, ◌<◌, ◌^◌, length, IfOk, Ok};
+ghost use Rattle.uw_outside.specs.Streams.{inflow};
 ghost use Rattle.uw_conf.specs.Configuration.{configuration_of};
 ghost use Rattle.uw_conf.specs.Sound.{AreCaches};
-ghost use Rattle.uw_top.specs.Run.{GivesConf, Says, with_a_cache};
+ghost use Rattle.uw_top.specs.Run.{with_a_cache};
+ghost use Rattle.uw_top.specs.RunSteps.{GivesConf, Says};
 
 use std::alloc::Global;
 use uw_conf::{Conf, ConfError, ConfFault, ConfKind, read_conf};
@@ -14,13 +16,7 @@ const MOST_READ: usize = 1_048_577;
 
 /// Reads a configuration up to its end, or up to the first byte that is too many.
 pub fn configuration<F: Source>(alloc: Global, conf: &mut F) -> Result<Conf, RunFault>
-    ensures gives { GivesConf configuration_of (record {
-      before = F.left conf.old;
-      now = F.left conf.new;
-      ended = F.ended conf.new;
-      faults_before = F.faults conf.old;
-      faults_now = F.faults conf.new;
-    }) result }
+    ensures gives { GivesConf configuration_of (inflow F.left F.ended F.faults conf.old conf.new) result }
     ensures caches { IfOk result (λ c. AreCaches c.caches) }
 {
     match vec![in alloc; 0; MOST_READ] {
@@ -32,13 +28,7 @@ pub fn configuration<F: Source>(alloc: Global, conf: &mut F) -> Result<Conf, Run
 // The same, by way of a buffer for all that is read.
 fn read_into<F: Source>(alloc: Global, conf: &mut F, text: &mut [u8]) -> Result<Conf, RunFault>
     requires { length text.old ≡ 1048577 }
-    ensures gives { GivesConf configuration_of (record {
-      before = F.left conf.old;
-      now = F.left conf.new;
-      ended = F.ended conf.new;
-      faults_before = F.faults conf.old;
-      faults_now = F.faults conf.new;
-    }) result }
+    ensures gives { GivesConf configuration_of (inflow F.left F.ended F.faults conf.old conf.new) result }
     ensures caches { IfOk result (λ c. AreCaches c.caches) }
 {
     match fill(conf, text) {
@@ -63,13 +53,7 @@ fn said(alloc: Global, text: &[u8]) -> Result<Conf, RunFault>
 
 /// Reads a configuration that has a cache, as `configuration`. One that has none is refused as a whole.
 pub fn configuration_with_a_cache<F: Source>(alloc: Global, conf: &mut F) -> Result<Conf, RunFault>
-    ensures gives { GivesConf (λ text. with_a_cache (configuration_of text)) (record {
-      before = F.left conf.old;
-      now = F.left conf.new;
-      ended = F.ended conf.new;
-      faults_before = F.faults conf.old;
-      faults_now = F.faults conf.new;
-    }) result }
+    ensures gives { GivesConf (λ text. with_a_cache (configuration_of text)) (inflow F.left F.ended F.faults conf.old conf.new) result }
     ensures caches { IfOk result (λ c. AreCaches c.caches) }
 {
     match configuration(alloc, conf) {

@@ -1,9 +1,10 @@
 // The command `load`: packets that a generator makes, and the figures of their replies.
 ghost use Rattle.std.specs.Prelude.{◌≡◌, ◌<◌, ◌^◌, ◌++◌, length, IfOk, OnOk};
 ghost use Rattle.std.specs.Fmt.{decimal};
+ghost use Rattle.uw_outside.specs.Streams.{outflow};
 ghost use Rattle.uw_conf.specs.Sound.{AreCaches};
 ghost use Rattle.uw_top.specs.Load.{LoadRun, block_for, command_for, figure_line, figures_text, head_for, next_number, no_figures, packet_for, variables_for, with_reply};
-ghost use Rattle.uw_top.specs.Loading.{AnswersNumber, AreCounted, CanCount, WritesText};
+ghost use Rattle.uw_top.specs.LoadSteps.{AnswersNumber, AreCounted, CanCount, WritesText};
 
 use crate::server::{Replied, Server};
 use itoa::Buffer;
@@ -189,7 +190,7 @@ pub fn load<K: Sink, C: Clock>(
     requires caches { AreCaches conf.caches }
     requires first { first < 2 ^ 31 }
     ensures { LoadRun conf first count
-        (record { before = K.taken snk.old; now = K.taken snk.new; faults_before = K.faults snk.old; faults_now = K.faults snk.new })
+        (outflow K.taken K.faults snk.old snk.new)
         (C.gave clock.old clock.new) result }
 {
     let mut server = match Server::new(alloc, conf) {
@@ -211,7 +212,7 @@ pub fn load<K: Sink, C: Clock>(
 
 // Writes the lines of figures.
 fn write_figures<K: Sink>(alloc: Global, figures: &Figures, snk: &mut K) -> Option<RunFault>
-    ensures { WritesText (figures_text figures.now) (record { before = K.taken snk.old; now = K.taken snk.new; faults_before = K.faults snk.old; faults_now = K.faults snk.new }) result }
+    ensures { WritesText (figures_text figures.now) (outflow K.taken K.faults snk.old snk.new) result }
 {
     let text = match figures.text(alloc) {
         Ok(text) => text,

@@ -1,8 +1,9 @@
 // The machine of `pipe`.
 ghost use Rattle.std.specs.Prelude.{◌≡◌, ◌<◌, ◌≤◌, ◌^◌, [], length, IfOk, IfSome};
+ghost use Rattle.uw_outside.specs.Streams.{inflow, outflow};
 ghost use Rattle.uw_model.specs.Caches.{empty_caches};
 ghost use Rattle.uw_top.specs.Pipe.{PipeRun};
-ghost use Rattle.uw_top.specs.Turns.{LooksFurther, TakesPacket, Turns, fault_of};
+ghost use Rattle.uw_top.specs.PipeSteps.{LooksFurther, TakesPacket, Turns, fault_of};
 
 use crate::server::Server;
 use std::alloc::Global;
@@ -19,13 +20,7 @@ fn take_packet<S: Source>(
     server: &Server,
     src: &mut S,
 ) -> Result<Option<Packet>, RunFault>
-    ensures taken { TakesPacket server.now.conf (record {
-      before = S.left src.old;
-      now = S.left src.new;
-      ended = S.ended src.new;
-      faults_before = S.faults src.old;
-      faults_now = S.faults src.new;
-    }) result }
+    ensures taken { TakesPacket server.now.conf (inflow S.left S.ended S.faults src.old src.new) result }
     ensures later { S.faults src.old ≤ S.faults src.new }
     ensures short { IfOk result (λ found. IfSome found (λ packet. length packet.block < 2 ^ 16)) }
 {
@@ -69,8 +64,8 @@ fn turn<S: Source, K: Sink, C: Clock>(
     clock: &mut C,
 ) -> Result<bool, RunFault>
     ensures turn { Turns server.old.conf server.old.caches server.new.caches briefs.old.items briefs.new.items
-        (record { before = S.left src.old; now = S.left src.new; ended = S.ended src.new; faults_before = S.faults src.old; faults_now = S.faults src.new })
-        (record { before = K.taken snk.old; now = K.taken snk.new; faults_before = K.faults snk.old; faults_now = K.faults snk.new })
+        (inflow S.left S.ended S.faults src.old src.new)
+        (outflow K.taken K.faults snk.old snk.new)
         (C.gave clock.old clock.new) result }
     ensures conf { server.new.conf ≡ server.old.conf }
     ensures src { S.faults src.old ≤ S.faults src.new }
@@ -99,13 +94,7 @@ fn turn<S: Source, K: Sink, C: Clock>(
 
 // Looks for one further byte, behind the last packet that a run may have.
 fn look_further<S: Source>(src: &mut S) -> Option<RunFault>
-    ensures further { LooksFurther (record {
-      before = S.left src.old;
-      now = S.left src.new;
-      ended = S.ended src.new;
-      faults_before = S.faults src.old;
-      faults_now = S.faults src.new;
-    }) result }
+    ensures further { LooksFurther (inflow S.left S.ended S.faults src.old src.new) result }
 {
     match fill(src, &mut [0]) {
         Filled::Whole => Some(RunFault::TooMany),
@@ -126,8 +115,8 @@ pub fn serve<S: Source, K: Sink, C: Clock>(
     requires empty { server.old.caches ≡ empty_caches server.old.conf.caches }
     requires first { briefs.old.items ≡ [] }
     ensures { PipeRun server.old.conf
-        (record { before = S.left src.old; now = S.left src.new; ended = S.ended src.new; faults_before = S.faults src.old; faults_now = S.faults src.new })
-        (record { before = K.taken snk.old; now = K.taken snk.new; faults_before = K.faults snk.old; faults_now = K.faults snk.new })
+        (inflow S.left S.ended S.faults src.old src.new)
+        (outflow K.taken K.faults snk.old snk.new)
         (C.gave clock.old clock.new) briefs.new.items result }
 {
     for served in 0..MOST_PACKETS {

@@ -1,6 +1,7 @@
 // The top call.
 ghost use Rattle.std.specs.Prelude.{◌≡◌, ◌<◌, ◌^◌, ◌⊎◌, [], ℕ, false, map, None, Some};
 ghost use Rattle.std.specs.String.{string_bytes};
+ghost use Rattle.uw_outside.specs.Streams.{inflow, outflow};
 ghost use Rattle.uw_conf.specs.Configuration.{configuration_of};
 ghost use Rattle.uw_conf.specs.Sound.{AreCaches};
 ghost use Rattle.uw_conf.specs.declared.conf.Conf.{Conf};
@@ -41,17 +42,17 @@ pub fn run<F: Source, S: Source, K: Sink, C: Clock>(
 
     // What was read, what was written for it, and why it ended there.
     ensures pipes { command_of (map string_bytes words.now) ≡ Some (commands.Pipe []) → Runs configuration_of
-        (record { before = F.left conf.old; now = F.left conf.new; ended = F.ended conf.new; faults_before = F.faults conf.old; faults_now = F.faults conf.new })
+        (inflow F.left F.ended F.faults conf.old conf.new)
         ((src.new ≡ src.old) × (snk.new ≡ snk.old) × (clock.new ≡ clock.old) × (result.briefs ≡ [])) result.fault
         (λ c. PipeRun c
-        (record { before = S.left src.old; now = S.left src.new; ended = S.ended src.new; faults_before = S.faults src.old; faults_now = S.faults src.new })
-        (record { before = K.taken snk.old; now = K.taken snk.new; faults_before = K.faults snk.old; faults_now = K.faults snk.new })
+        (inflow S.left S.ended S.faults src.old src.new)
+        (outflow K.taken K.faults snk.old snk.new)
         (C.gave clock.old clock.new) result.briefs result.fault) }
     ensures loads { (first count : ℕ) → command_of (map string_bytes words.now) ≡ Some (commands.Load first count) → Runs (λ text. with_a_cache (configuration_of text))
-        (record { before = F.left conf.old; now = F.left conf.new; ended = F.ended conf.new; faults_before = F.faults conf.old; faults_now = F.faults conf.new })
+        (inflow F.left F.ended F.faults conf.old conf.new)
         ((src.new ≡ src.old) × (snk.new ≡ snk.old) × (clock.new ≡ clock.old) × (result.briefs ≡ [])) result.fault
         (λ c. (src.new ≡ src.old) × (result.briefs ≡ []) × LoadRun c first count
-        (record { before = K.taken snk.old; now = K.taken snk.new; faults_before = K.faults snk.old; faults_now = K.faults snk.new })
+        (outflow K.taken K.faults snk.old snk.new)
         (C.gave clock.old clock.new) result.fault) }
 {
     match read_words(alloc, words) {
@@ -84,11 +85,11 @@ fn pipe<F: Source, S: Source, K: Sink, C: Clock>(
 ) -> RunEnd
     ensures status { result.status ≡ status_of result.fault }
     ensures pipes { Runs configuration_of
-        (record { before = F.left conf.old; now = F.left conf.new; ended = F.ended conf.new; faults_before = F.faults conf.old; faults_now = F.faults conf.new })
+        (inflow F.left F.ended F.faults conf.old conf.new)
         ((src.new ≡ src.old) × (snk.new ≡ snk.old) × (clock.new ≡ clock.old) × (result.briefs ≡ [])) result.fault
         (λ c. PipeRun c
-        (record { before = S.left src.old; now = S.left src.new; ended = S.ended src.new; faults_before = S.faults src.old; faults_now = S.faults src.new })
-        (record { before = K.taken snk.old; now = K.taken snk.new; faults_before = K.faults snk.old; faults_now = K.faults snk.new })
+        (inflow S.left S.ended S.faults src.old src.new)
+        (outflow K.taken K.faults snk.old snk.new)
         (C.gave clock.old clock.new) result.briefs result.fault) }
 {
     match configuration(alloc, conf) {
@@ -108,8 +109,8 @@ fn piped<S: Source, K: Sink, C: Clock>(
     requires { AreCaches conf.caches }
     ensures status { result.status ≡ status_of result.fault }
     ensures pipes { PipeRun conf
-        (record { before = S.left src.old; now = S.left src.new; ended = S.ended src.new; faults_before = S.faults src.old; faults_now = S.faults src.new })
-        (record { before = K.taken snk.old; now = K.taken snk.new; faults_before = K.faults snk.old; faults_now = K.faults snk.new })
+        (inflow S.left S.ended S.faults src.old src.new)
+        (outflow K.taken K.faults snk.old snk.new)
         (C.gave clock.old clock.new) result.briefs result.fault }
 {
     let mut server = match Server::new(alloc, conf) {
@@ -134,10 +135,10 @@ fn load_over<F: Source, K: Sink, C: Clock>(
     ensures status { result.status ≡ status_of result.fault }
     ensures briefs { result.briefs ≡ [] }
     ensures loads { Runs (λ text. with_a_cache (configuration_of text))
-        (record { before = F.left conf.old; now = F.left conf.new; ended = F.ended conf.new; faults_before = F.faults conf.old; faults_now = F.faults conf.new })
+        (inflow F.left F.ended F.faults conf.old conf.new)
         ((snk.new ≡ snk.old) × (clock.new ≡ clock.old)) result.fault
         (λ c. LoadRun c first count
-        (record { before = K.taken snk.old; now = K.taken snk.new; faults_before = K.faults snk.old; faults_now = K.faults snk.new })
+        (outflow K.taken K.faults snk.old snk.new)
         (C.gave clock.old clock.new) result.fault) }
 {
     match configuration_with_a_cache(alloc, conf) {

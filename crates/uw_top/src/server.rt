@@ -6,7 +6,7 @@ ghost use Rattle.uw_model.specs.Entries.{IsCacheConf};
 ghost use Rattle.uw_cachecmd.specs.Replies.{reply_text};
 ghost use Rattle.uw_ends.specs.declared.ends.RunFault.TheVariants as faults;
 ghost use Rattle.uw_top.specs.Exchange.{frame, refusal_of};
-ghost use Rattle.uw_top.specs.Turns.{AnswersPacket, RepliesTo};
+ghost use Rattle.uw_top.specs.PipeSteps.{AnswersPacket, RepliesTo};
 
 use byteorder::{ByteOrder, LittleEndian};
 use std::alloc::Global;
@@ -31,7 +31,7 @@ pub struct Server {
 impl Model for Server {
     ghost use Rattle.std.specs.Prelude.{◌≡◌, ◌≤◌, length};
     ghost use Rattle.uw_top.specs.Exchange.{names_of};
-    ghost use Rattle.uw_top.specs.Server.{Serving};
+    ghost use Rattle.uw_top.specs.ServerSteps.{Serving};
 
     ghost Value = { Serving };
 

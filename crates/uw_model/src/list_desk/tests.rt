@@ -55,8 +55,8 @@ fn two_confs(alloc: Global) -> Result<CacheConfList, Memory>
     ensures two { IfOk result (λ confs. length confs ≡ 2) }
 {
     let mut confs = CacheConfList::new(alloc);
-    confs.push(conf_of(alloc))?;
-    confs.push(conf_of(alloc))?;
+    confs.push(alloc, conf_of(alloc))?;
+    confs.push(alloc, conf_of(alloc))?;
     Ok(confs)
 }
 

@@ -2,7 +2,7 @@ use Rattle.std.proofs.Common.{◌≡◌, ◌+◌, ◌==◌, length, []}
 use Rattle.std.specs.List.{slice_split}
 use Rattle.std.specs.Option.{option_map_or}
 use Rattle.uw_conf.specs.Caches.{draft_of, with_pairs}
-use Rattle.uw_conf.specs.Seen.{draft_seen}
+use Rattle.uw_conf.specs.ReadingSteps.{draft_seen}
 use Rattle.uw_conf.proofs.draft.draft_of.Given as goal
 
 -- the pairs that are left, behind those so far, give the draft

@@ -8,5 +8,6 @@ returns c =
     record {
       each = λ text conf says. (keeps text conf says).each;
       few = λ text conf says. (keeps text conf says).few;
+      names = λ text conf says. (keeps text conf says).names;
       small = λ text conf says. (keeps text conf says).small;
     }

@@ -1,6 +1,6 @@
 use Rattle.std.proofs.Common.{sym, ◌∙◌, arith}
 use Rattle.std.specs.Str.Lines.{lines}
-use Rattle.uw_conf.specs.Progress.{progress_seen}
+use Rattle.uw_conf.specs.ReadingSteps.{progress_seen}
 use Rattle.uw_conf.proofs.OptionLemmas.{HasCaches, caches_kept}
 use Rattle.uw_conf.proofs.ReadingLemmas.{lines_step, taken_keeps}
 use Rattle.uw_conf.proofs.reading.read_lines.Goals as goal

@@ -1,7 +1,7 @@
 use Rattle.std.proofs.Common.{◌≡◌, ◌+◌, ◌≤◌, length, Ok, None}
 use Rattle.std.specs.Str.Lines.{lines}
 use Rattle.uw_conf.specs.Configuration.{blank_conf, read_lines}
-use Rattle.uw_conf.specs.Progress.{progress_seen}
+use Rattle.uw_conf.specs.ReadingSteps.{progress_seen}
 use Rattle.uw_conf.specs.Sound.{AreCaches}
 use Rattle.uw_conf.proofs.reading.read_lines.Given as goal
 

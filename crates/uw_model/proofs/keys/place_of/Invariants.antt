@@ -1,5 +1,5 @@
 use Rattle.std.proofs.Common.{◌≡◌, true, take}
-use Rattle.uw_model.specs.Keys.{lacks}
+use Rattle.uw_model.specs.KeySteps.{lacks}
 use Rattle.uw_model.proofs.keys.place_of.Given as goal
 
 abbrev pub invariant-loop-place : goal.invariant-loop-place

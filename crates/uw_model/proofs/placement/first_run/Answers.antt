@@ -1,6 +1,6 @@
 -- The place is free and no place before it is; or no place is left, and none before was free.
 use Rattle.std.proofs.Common.{arith}
-use Rattle.uw_model.specs.Counted.{counted}
+use Rattle.uw_model.specs.PlacementSteps.{counted}
 use Rattle.uw_model.proofs.PlacementLemmas.{first_run_found, first_run_nowhere}
 use Rattle.uw_model.proofs.placement.first_run.Goals as goal
 

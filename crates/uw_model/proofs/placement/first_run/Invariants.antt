@@ -1,6 +1,6 @@
 use Rattle.std.proofs.Common.{◌≡◌, ◌≤◌, ℕ, ◌-◌, ◌<◌, false}
 use Rattle.uw_model.specs.Placement.{is_free}
-use Rattle.uw_model.specs.Counted.{counted}
+use Rattle.uw_model.specs.PlacementSteps.{counted}
 use Rattle.uw_model.proofs.placement.first_run.Given as goal
 
 abbrev pub invariant-loop-place : goal.invariant-loop-place

@@ -1,5 +1,5 @@
 use Rattle.std.proofs.Common.{◌≡◌, ◌<◌, ◌^◌}
-use Rattle.uw_top.specs.Loading.{AreCounted, IsLoaded}
+use Rattle.uw_top.specs.LoadSteps.{AreCounted, IsLoaded}
 use Rattle.uw_top.proofs.load.load.Given as goal
 
 -- the packets answered so far, and their figures

@@ -1,5 +1,5 @@
 use Rattle.std.proofs.Common.{◌≡◌, ◌≤◌}
-use Rattle.uw_top.specs.Turns.{SoFar}
+use Rattle.uw_top.specs.PipeSteps.{SoFar}
 use Rattle.uw_top.proofs.pipe.serve.Given as goal
 
 -- the packets answered so far

@@ -6,10 +6,10 @@ use Rattle.uw_ends.specs.declared.words.WordsFault.{WordsFault}
 use Rattle.uw_ends.specs.declared.words.WordsFault.TheVariants.{Usage, Memory}
 
 -- an Ok is the defined value, and Usage comes only where there is none; want of memory is free
-abbrev pub Answers : {X : Type 0} → Result X WordsFault → Option X → Type 0
-Answers (Ok value) wanted = wanted ≡ Some value
-Answers (Err Usage) wanted = wanted ≡ None
-Answers (Err Memory) wanted = Unit {0}
+abbrev pub GivesOrUsage : {X : Type 0} → Result X WordsFault → Option X → Type 0
+GivesOrUsage (Ok value) wanted = wanted ≡ Some value
+GivesOrUsage (Err Usage) wanted = wanted ≡ None
+GivesOrUsage (Err Memory) wanted = Unit {0}
 
 -- the numbers of a command lie in their ranges
 abbrev pub IsWithin : Command → Type 0

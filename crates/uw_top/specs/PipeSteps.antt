@@ -8,7 +8,8 @@ use Rattle.uw_packet.specs.declared.packet.Packet.{Packet}
 use Rattle.uw_packet.specs.declared.packet.PacketFault.{PacketFault}
 use Rattle.uw_packet.specs.declared.packet.PacketFault.TheVariants as packets
 use Rattle.uw_packet.specs.Packet.{header_bytes}
-use Rattle.uw_packet.specs.Reads.{Reading, IsOver}
+use Rattle.uw_outside.specs.Streams.{Inflow}
+use Rattle.uw_packet.specs.Reads.{IsOver}
 use Rattle.uw_model.specs.ListState.{ListState}
 use Rattle.uw_model.specs.Caches.{empty_caches}
 use Rattle.uw_conf.specs.declared.conf.Conf.{Conf}
@@ -17,7 +18,7 @@ use Rattle.uw_ends.specs.declared.ends.Brief.{Brief}
 use Rattle.uw_ends.specs.declared.ends.RunFault.{RunFault}
 use Rattle.uw_ends.specs.declared.ends.RunFault.TheVariants as faults
 use Rattle.uw_top.specs.declared.server.Replied.{Replied}
-use Rattle.uw_top.specs.Outputs.{Writing}
+use Rattle.uw_outside.specs.Streams.{Outflow}
 use Rattle.uw_top.specs.Exchange.{Exchange, packet_bytes, refusal_of, broken_at, asked_by, reply_of, frame_of, IsAnswered}
 use Rattle.uw_top.specs.Pipe.{IsBegun, IsTruncated, EndsBy, brief_of, bytes_of, frames_from, moments_of, caches_from}
 
@@ -30,7 +31,7 @@ fault_of packets.ReadFault = faults.ReadFault
 fault_of packets.Memory = faults.Memory
 
 -- a packet with an accepted header was taken; or the source was at its end; or why there is no packet, and what was taken of it
-abbrev pub TakesPacket : Conf → Reading → Result (Option Packet) RunFault → Type 0
+abbrev pub TakesPacket : Conf → Inflow → Result (Option Packet) RunFault → Type 0
 TakesPacket conf r (Ok None) = Takes r.before r.now [] × IsOver r
 TakesPacket conf r (Ok (Some packet)) =
     Takes r.before r.now (header_bytes packet.head ++ packet.block) × (refusal_of conf packet.head ≡ None) × (length packet.block ≡ packet.head.size)
@@ -58,7 +59,7 @@ AnswersPacket conf caches after x (Err faults.Memory) = Unit {0}
 AnswersPacket conf caches after x (Err _) = ⊥
 
 -- a turn that was the last: what it took, wrote and was told, and why
-pub record Stops (conf : Conf) (caches : List ListState) (src : Reading) (snk : Writing) (gave : List ℕ → Type 0) (fault : Option RunFault) : Type 0 where
+pub record Stops (conf : Conf) (caches : List ListState) (src : Inflow) (snk : Outflow) (gave : List ℕ → Type 0) (fault : Option RunFault) : Type 0 where
   pub moment : ℕ
   pub rest : List ℕ
   pub part : List ℕ
@@ -68,7 +69,7 @@ pub record Stops (conf : Conf) (caches : List ListState) (src : Reading) (snk : 
   pub ending : EndsBy conf (record { src = src; snk = snk; count = 0; caches = caches; rest = rest; part = part; late = moment ∷ [] }) fault
 
 -- a turn that answered a packet
-pub record Goes (conf : Conf) (caches after : List ListState) (told told_now : List Brief) (src : Reading) (snk : Writing) (gave : List ℕ → Type 0) : Type 0 where
+pub record Goes (conf : Conf) (caches after : List ListState) (told told_now : List Brief) (src : Inflow) (snk : Outflow) (gave : List ℕ → Type 0) : Type 0 where
   pub packet : Exchange
   pub answered : IsAnswered conf packet
   pub read : Takes src.before src.now (packet_bytes packet)
@@ -78,7 +79,7 @@ pub record Goes (conf : Conf) (caches after : List ListState) (told told_now : L
   pub briefs : told_now ≡ told ++ brief_of packet ∷ []
 
 -- a turn answered a packet, or found the source at its end, or was the last by a fault
-abbrev pub Turns : Conf → List ListState → List ListState → List Brief → List Brief → Reading → Writing → (List ℕ → Type 0) → Result Bool RunFault → Type 0
+abbrev pub Turns : Conf → List ListState → List ListState → List Brief → List Brief → Inflow → Outflow → (List ℕ → Type 0) → Result Bool RunFault → Type 0
 Turns conf caches after told told_now src snk gave (Ok true) = Goes conf caches after told told_now src snk gave
 Turns conf caches after told told_now src snk gave (Ok false) = (told_now ≡ told) × Stops conf caches src snk gave None
 Turns conf caches after told told_now src snk gave (Err fault) = (told_now ≡ told) × Stops conf caches src snk gave (Some fault)
@@ -96,7 +97,7 @@ pub record SoFar (conf : Conf) (held : List ListState) (told : List Brief) (left
   pub count : length packets ≡ turns
 
 -- one further byte was looked for, behind the last packet that a run may have
-abbrev pub LooksFurther : Reading → Option RunFault → Type 0
+abbrev pub LooksFurther : Inflow → Option RunFault → Type 0
 LooksFurther r None = Takes r.before r.now [] × IsOver r
 LooksFurther r (Some faults.TooMany) = (byte : ℕ) × Takes r.before r.now (byte ∷ [])
 LooksFurther r (Some faults.ReadFault) = Takes r.before r.now [] × Rose r.faults_before r.faults_now

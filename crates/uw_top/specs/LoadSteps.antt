@@ -10,7 +10,7 @@ use Rattle.uw_ends.specs.declared.ends.RunFault.{RunFault}
 use Rattle.uw_ends.specs.declared.ends.RunFault.TheVariants as faults
 use Rattle.uw_top.specs.declared.load.Figures.{Figures}
 use Rattle.uw_top.specs.declared.server.Replied.{Replied}
-use Rattle.uw_top.specs.Outputs.{Writing}
+use Rattle.uw_outside.specs.Streams.{Outflow}
 use Rattle.uw_top.specs.Exchange.{Exchange, reply_of, refusal_of, IsAnswered}
 use Rattle.uw_top.specs.Pipe.{caches_from}
 use Rattle.uw_top.specs.Load.{figures_from, next_number, no_figures, packets_from}
@@ -53,7 +53,7 @@ pub record IsLoaded (conf : Conf) (first number : ℕ) (held : List ListState) (
   pub count : length moments ≡ served
 
 -- a text was written, or a write failed after so many bytes of it, or there was no memory for it
-abbrev pub WritesText : List ℕ → Writing → Option RunFault → Type 0
+abbrev pub WritesText : List ℕ → Outflow → Option RunFault → Type 0
 WritesText text w None = Gives w.before w.now text
 WritesText text w (Some faults.WriteFault) = Rose w.faults_before w.faults_now × ((n : ℕ) × (n < length text) × Gives w.before w.now (take n text))
 WritesText text w (Some faults.Memory) = Gives w.before w.now []

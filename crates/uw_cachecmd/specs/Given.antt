@@ -6,13 +6,13 @@ use Rattle.uw_cachecmd.specs.declared.commands.CmdFault.{CmdFault}
 use Rattle.uw_cachecmd.specs.declared.commands.CmdFault.TheVariants as faults
 
 -- the defined ask or refusal, unless no memory was left
-abbrev pub Answers : Result Ask CmdFault → Result Ask CmdFault → Type 0
-Answers (Err faults.Memory) defined = Unit {0}
-Answers (Err (faults.BadBlock at)) defined = defined ≡ Err (faults.BadBlock at)
-Answers (Err faults.UnknownCommand) defined = defined ≡ Err faults.UnknownCommand
-Answers (Err faults.UnknownCache) defined = defined ≡ Err faults.UnknownCache
-Answers (Err faults.BadNumber) defined = defined ≡ Err faults.BadNumber
-Answers (Ok ask) defined = defined ≡ Ok ask
+abbrev pub GivesAsk : Result Ask CmdFault → Result Ask CmdFault → Type 0
+GivesAsk (Err faults.Memory) defined = Unit {0}
+GivesAsk (Err (faults.BadBlock at)) defined = defined ≡ Err (faults.BadBlock at)
+GivesAsk (Err faults.UnknownCommand) defined = defined ≡ Err faults.UnknownCommand
+GivesAsk (Err faults.UnknownCache) defined = defined ≡ Err faults.UnknownCache
+GivesAsk (Err faults.BadNumber) defined = defined ≡ Err faults.BadNumber
+GivesAsk (Ok ask) defined = defined ≡ Ok ask
 
 -- an ask is of one of so many caches
 abbrev pub AsksOneOf : ℕ → Result Ask CmdFault → Type 0
