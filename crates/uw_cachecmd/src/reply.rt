@@ -6,9 +6,8 @@ ghost use Rattle.uw_cachecmd.specs.Replies.{reply_text, answer_text, value_text,
 
 use crate::CmdFault;
 use byteorder::{ByteOrder, LittleEndian};
-use itoa::Buffer;
 use std::alloc::Global;
-use uw_base::{Bytes, Memory};
+use uw_base::{Bytes, Memory, put_signed};
 use uw_model::Answer;
 
 /// The bytes that answer a command: for modifier2 0 the value alone, else the answer's text.
@@ -71,8 +70,9 @@ fn text(alloc: Global, answer: &Answer) -> Result<Bytes, Memory>
 fn number_text(alloc: Global, number: i64) -> Result<Bytes, Memory>
     ensures { IfOk result (λ reply. reply ≡ codes "number " ++ signed_decimal number) }
 {
-    let mut buffer = Buffer::new();
-    Bytes::joined(alloc, b"number ", buffer.format(number).as_bytes())
+    let mut text = Bytes::from_slice(alloc, b"number ")?;
+    put_signed(&mut text, number)?;
+    Ok(text)
 }
 
 // Each key behind the lower two bytes of its length.

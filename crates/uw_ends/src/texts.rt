@@ -5,9 +5,8 @@ ghost use Rattle.uw_ends.specs.declared.ends.RunFault.TheVariants as faults;
 ghost use Rattle.uw_ends.specs.Ends.{name_of, text_of, text_of_packet};
 
 use crate::{BadPacket, RunFault};
-use itoa::Buffer;
 use std::alloc::Global;
-use uw_base::{Bytes, Memory};
+use uw_base::{Bytes, Memory, put_decimal};
 use uw_conf::{ConfFault, ConfKind};
 
 /// The text of a fault, for a person, without a line feed.
@@ -87,7 +86,7 @@ fn with_number(alloc: Global, front: &[u8], number: u64) -> Result<Bytes, Memory
     ensures { IfOk result (λ text. text ≡ front.now ++ decimal number) }
 {
     let mut text = Bytes::from_slice(alloc, front)?;
-    text.append(Buffer::new().format(number).as_bytes())?;
+    put_decimal(&mut text, number)?;
     Ok(text)
 }
 
@@ -103,6 +102,6 @@ fn with_numbers(
 {
     let mut text = with_number(alloc, front, first)?;
     text.append(middle)?;
-    text.append(Buffer::new().format(second).as_bytes())?;
+    put_decimal(&mut text, second)?;
     Ok(text)
 }

@@ -17,7 +17,7 @@ use Rattle.uw_model.specs.declared.calls.Answer.{Answer}
 use Rattle.uw_model.specs.ListState.{ListState}
 use Rattle.uw_model.specs.Caches.{empty_caches}
 use Rattle.uw_cachecmd.specs.declared.commands.Kind.{Kind}
-use Rattle.uw_cachecmd.specs.Commands.{commanded, command_of}
+use Rattle.uw_cachecmd.specs.Commands.{commanded, command_block_ask}
 use Rattle.uw_conf.specs.declared.conf.Conf.{Conf}
 use Rattle.uw_conf.proofs.SizeLemmas.{AllByRecursion-push}
 use Rattle.uw_ends.specs.declared.ends.BadPacket.TheVariants as bad
@@ -103,7 +103,7 @@ commanded_whole (Some kind) (Some cache) None amount key value = refl
 commanded_whole (Some kind) (Some cache) (Some ttl) None key value = refl
 commanded_whole (Some kind) (Some cache) (Some ttl) (Some by) key value = refl
 
-command_whole : (names : List (List ℕ)) (read : Result (List Pair) ℕ) (pairs : List Pair) → read ≡ Ok pairs → broken_at (command_of names read) ≡ None
+command_whole : (names : List (List ℕ)) (read : Result (List Pair) ℕ) (pairs : List Pair) → read ≡ Ok pairs → broken_at (command_block_ask names read) ≡ None
 command_whole names read pairs e = rw e (commanded_whole _ _ _ _ _ _)
 
 generated_whole : (conf : Conf) (x : ℕ) → x < 2 ^ 31 → broken_at (asked_by conf (head_for x) (block_for x)) ≡ None

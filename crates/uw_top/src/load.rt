@@ -9,7 +9,7 @@ ghost use Rattle.uw_top.specs.LoadSteps.{AnswersNumber, AreCounted, CanCount, Wr
 use crate::server::{Replied, Server};
 use itoa::Buffer;
 use std::alloc::Global;
-use uw_base::{Bytes, Memory, Pair, Vars};
+use uw_base::{Bytes, Memory, Pair, Vars, put_decimal};
 use uw_conf::Conf;
 use uw_ends::RunFault;
 use uw_model::Answer;
@@ -54,7 +54,7 @@ fn with_number(alloc: Global, front: &[u8], number: u64) -> Result<Bytes, Memory
     ensures { IfOk result (λ text. text ≡ front.now ++ decimal number) }
 {
     let mut text = Bytes::from_slice(alloc, front)?;
-    text.append(Buffer::new().format(number).as_bytes())?;
+    put_decimal(&mut text, number)?;
     Ok(text)
 }
 

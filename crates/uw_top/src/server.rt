@@ -1,5 +1,5 @@
 // What answers packets: a configuration and its caches.
-ghost use Rattle.std.specs.Prelude.{◌≡◌, ◌<◌, ◌≤◌, ◌^◌, length, map, None, Some, IfOk, IfErr};
+ghost use Rattle.std.specs.Prelude.{◌≡◌, ◌<◌, ◌≤◌, ◌^◌, length, None, Some, IfOk, IfErr};
 ghost use Rattle.std.specs.List.{AllByRecursion};
 ghost use Rattle.uw_model.specs.Caches.{empty_caches};
 ghost use Rattle.uw_model.specs.Entries.{IsCacheConf};
@@ -11,11 +11,11 @@ ghost use Rattle.uw_top.specs.PipeSteps.{AnswersPacket, RepliesTo};
 use byteorder::{ByteOrder, LittleEndian};
 use std::alloc::Global;
 use std::marker::Model;
-use uw_base::{Bytes, BytesList, Memory};
+use uw_base::{Bytes, Memory};
 use uw_cachecmd::{CmdFault, cache_reply, command, fault_reply};
 use uw_conf::Conf;
 use uw_ends::{BadPacket, RunFault};
-use uw_model::{Answer, Ask, CacheConfList, Desk, ListDesk};
+use uw_model::{Answer, Ask, Desk, ListDesk};
 use uw_outside::Immortal;
 use uw_packet::{Header, Packet};
 
@@ -23,21 +23,18 @@ use uw_packet::{Header, Packet};
 #[derive(Drop)]
 pub struct Server {
     conf: Conf,
-    // The names of the caches, in their order.
-    names: BytesList,
     desk: ListDesk,
 }
 
 impl Model for Server {
     ghost use Rattle.std.specs.Prelude.{◌≡◌, ◌≤◌, length};
-    ghost use Rattle.uw_top.specs.Exchange.{names_of};
     ghost use Rattle.uw_top.specs.ServerSteps.{Serving};
 
     ghost Value = { Serving };
 
-    ghost view = { λ s. record { conf = s.conf; caches = s.desk } };
+    ghost view = { λ s. record { conf = s.conf; caches = s.desk.caches } };
 
-    ghost invariant = { λ s. (s.names ≡ names_of s.conf) × (length s.desk ≡ length s.conf.caches) × (length s.conf.caches ≤ 16) };
+    ghost invariant = { λ s. (length s.desk.caches ≡ length s.conf.caches) × (length s.conf.caches ≤ 16) };
 }
 
 /// A reply to a packet, and the answer of the cache behind it, where one was asked.
@@ -54,9 +51,8 @@ impl Server {
         requires few { length conf.caches ≤ 16 }
         ensures { IfOk result (λ s. s ≡ record { conf = conf; caches = empty_caches conf.caches }) }
     {
-        let names = names(alloc, &conf.caches)?;
         let desk = ListDesk::new(alloc, &conf.caches)?;
-        Ok(Server { conf, names, desk })
+        Ok(Server { conf, desk })
     }
 
     /// Why a header is refused.
@@ -90,7 +86,8 @@ impl Server {
         ensures conf { self.new.conf ≡ self.old.conf }
     {
         let m2 = packet.head.m2;
-        match command(alloc, m2, packet.block.as_slice(), &self.names) {
+        let names = self.conf.caches.names();
+        match command(alloc, m2, packet.block.as_slice(), names) {
             Ok(Ask::Cache { cache, call }) => {
                 let life = &mut Immortal::new();
                 match self.desk.cache(alloc, cache, moment, &call, life) {
@@ -122,17 +119,6 @@ impl Server {
             Err(fault) => Err(fault),
         }
     }
-}
-
-// The names of caches, in their order.
-fn names(alloc: Global, caches: &CacheConfList) -> Result<BytesList, Memory>
-    ensures { IfOk result (λ names. names ≡ map (λ c. c.name) caches.now) }
-{
-    let mut names = BytesList::new(alloc);
-    for conf in caches.as_slice() {
-        names.push(Bytes::from_slice(alloc, conf.name.as_slice())?)?;
-    }
-    Ok(names)
 }
 
 // The reply to an answer, with the answer.
