@@ -26,3 +26,9 @@ pub record Allows (before now : Option (List ℕ)) (alive answer : Bool) : Type 
   pub refused : alive ≡ true → IfSome before (λ allowances. answer ≡ not (is_spent allowances))
   pub counted : answer ≡ true → Spends before now 1
   pub kept : answer ≡ false → now ≡ before
+
+-- what a life that tells shows: whether it is alive, how often it has died, and its allowances
+pub record LifeLeft : Type 0 where
+  pub alive : Bool
+  pub deaths : ℕ
+  pub allowances : List ℕ

@@ -4,6 +4,7 @@
 
 pub mod clock;
 mod counts;
+pub mod fuse;
 pub mod life;
 pub mod real;
 pub mod sink;
@@ -12,7 +13,8 @@ pub mod source;
 mod tests;
 
 pub use clock::{Clock, FixedClock};
-pub use life::{Immortal, Life};
+pub use fuse::Fuse;
+pub use life::{Died, Immortal, Life};
 pub use real::{Reading, SystemClock, Writing};
 pub use sink::{BytesOut, Put, Sink, put_all};
 pub use source::{BytesIn, Filled, Got, Source, fill};

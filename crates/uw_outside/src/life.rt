@@ -3,6 +3,10 @@ ghost use Rattle.std.specs.Prelude.{◌≡◌, ◌&&◌, Bool, true, false, not,
 ghost use Rattle.uw_outside.specs.Faults.{HasCause};
 ghost use Rattle.uw_outside.specs.Lives.{Allows};
 
+/// The death of a life, in place of a word write that it refused.
+#[derive(Clone, Copy, Debug, PartialEq, Eq)]
+pub struct Died;
+
 /// The life of a worker, which may end before any word write: it is alive until it first refuses one, and refuses every
 /// one after that. It counts its deaths.
 pub trait Life {

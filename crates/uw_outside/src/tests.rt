@@ -1,8 +1,7 @@
 // The forms in memory and the adapters, through their traits.
-use crate::counts::count_fault;
 use crate::{
-    BytesIn, BytesOut, Clock, Filled, FixedClock, Got, Immortal, Life, Put, Reading, Sink, Source,
-    SystemClock, Writing, fill, put_all,
+    BytesIn, BytesOut, Clock, Filled, FixedClock, Fuse, Got, Immortal, Life, Put, Reading, Sink,
+    Source, SystemClock, Writing, fill, put_all,
 };
 use std::alloc::{AllocError, Global};
 use std::io::{self, Read, Write};
@@ -229,37 +228,6 @@ fn the_clock_gives_whole_seconds(rt: HostRuntime) {
     assert!(rt; SystemClock::new(&rt).now() > 1_700_000_000);
 }
 
-// A life that lets so many word writes through, and tells so.
-#[derive(Drop)]
-struct Countdown {
-    left: u64,
-    alive: bool,
-    deaths: u64,
-}
-
-impl Life for Countdown {
-    ghost use Rattle.std.specs.Prelude.{[], ◌∷◌, Some};
-
-    ghost alive = { λ l. l.alive };
-
-    ghost deaths = { λ l. l.deaths };
-
-    ghost allowances = { λ l. Some (l.left ∷ []) };
-
-    fn may_write(&mut self) -> bool {
-        if !self.alive {
-            return false;
-        }
-        if self.left == 0 {
-            self.alive = false;
-            count_fault(&mut self.deaths);
-            return false;
-        }
-        self.left -= 1;
-        true
-    }
-}
-
 // What a life answers to five word writes.
 fn five_writes<L: Life>(life: &mut L) -> [bool; 5] {
     [
@@ -272,13 +240,19 @@ fn five_writes<L: Life>(life: &mut L) -> [bool; 5] {
 }
 
 #[test]
-fn a_life_that_has_refused_refuses_for_good(rt: HostRuntime) {
-    let mut life = Countdown {
-        left: 2,
-        alive: true,
-        deaths: 0,
-    };
-    assert_eq!(rt; five_writes(&mut life), [true, true, false, false, false]);
-    assert_eq!(rt; life.deaths, 1);
+fn a_fuse_refuses_the_write_of_its_number(rt: HostRuntime) -> Result<(), Fail> {
+    let mut fuse = Fuse::new([3, 1, 2].to_vec(rt.alloc())?);
+    let rows = [
+        [true, true, false, false, false],
+        [false; 5],
+        [true, false, false, false, false],
+        [true; 5],
+        [true; 5],
+    ];
+    for want in rows {
+        assert_eq!(rt; five_writes(&mut fuse), want);
+        fuse.renew();
+    }
     assert_eq!(rt; five_writes(&mut Immortal::new()), [true; 5]);
+    Ok(())
 }
