@@ -28,7 +28,6 @@ ok_step P false x y h k = k refl
 -- a field of a configuration, of which each option says what it leaves in it: what its value says where it is of the kind, and else what was there
 module _ {A : Type 0} (field : Conf → A) (kind : OptionKind) (read : List ℕ → A)
     (step : (conf : Conf) (name value : List ℕ) → IfOk (with_option conf name value) (λ next. field next ≡ cond (is_kind kind (option_kind name)) (read value) (field conf))) where
-
   abbrev pub value_or : A → Option (List ℕ) → A
   value_or default None = default
   value_or default (Some text) = read text

@@ -178,12 +178,7 @@ fn option_kind(name: &[u8]) -> Option<OptionKind>
 }
 
 // An option with its value.
-fn set_option(
-    alloc: Global,
-    conf: Conf,
-    kind: OptionKind,
-    value: &[u8],
-) -> Result<Conf, Refusal>
+fn set_option(alloc: Global, conf: Conf, kind: OptionKind, value: &[u8]) -> Result<Conf, Refusal>
     requires { AreCaches conf.caches }
     ensures { GivesValue result (set_option conf kind value.now) }
 {

@@ -64,7 +64,6 @@ answered_first c m history given later (suc place) = later place
 -- an ask in front: what is behind it is known of any list that it leads to
 module _ (cache : ℕ) (asked : List Asking) (now : Lists)
     (later : (before : Lists) (c : ListState) → LeadsLists before asked now → slice_get before.caches cache ≡ Some c → IsReplayed before asked now cache c) where
-
   abbrev Behind : ListState → ℕ → Ask → Option AskAnswer → Type 0
   Behind c moment ask counted =
       (slice_get now.caches cache ≡ Some (replayed c (with_ask cache moment ask counted (history_of cache asked)))) × AnswersAtPlaces c (with_ask cache moment ask counted (history_of cache asked))
@@ -78,7 +77,7 @@ module _ (cache : ℕ) (asked : List Asking) (now : Lists)
       of_this test e =
           let there : slice_get before.caches number ≡ Some c = rw e here in
           let next : slice_get (caches_after before.caches number moment call) cache ≡ Some (called c moment call) =
-              rw (caches_same before.caches number moment call c there, ← e) (found_same before.caches number c (called c moment call) there) in
+          rw (caches_same before.caches number moment call c there, ← e) (found_same before.caches number c (called c moment call) there) in
           let is : given ≡ answer c.conf c.list moment call = cc (rw there at said) in
           let rest = later (lists_after before moment (asks.Cache number call)) (called c moment call) led next in
           rw test (rest.0, answered_first c (record { moment = moment; call = call; answer = given }) (history_of cache asked) is rest.1)
