@@ -1,36 +1,36 @@
 // Asks of a desk of two caches, each with the answer that it must have.
-ghost use Rattle.std.specs.Prelude.{◌≡◌, ◌<◌, length, true, IfOk};
+ghost use Rattle.std.specs.Prelude.{◌≡◌, length, IfOk};
 ghost use Rattle.std.specs.List.{AllByRecursion};
 ghost use Rattle.uw_model.specs.Entries.{IsCacheConf};
 
 use super::*;
-use crate::CacheConf;
+use crate::{Ask, AskAnswer, CacheConf, make_ask};
 use std::test::Fail;
 use uw_base::Bytes;
 use uw_outside::Immortal;
 
 /// What is asked of the one key.
 #[derive(Clone, Copy)]
-enum Ask {
+enum What {
     Get,
     Set(&'static [u8]),
     Del,
 }
 
 /// The number of a cache, what it is asked, and the text of the answer that is wanted.
-type Row = (u32, Ask, &'static [u8]);
+type Row = (u32, What, &'static [u8]);
 
 const ROWS: &[Row] = &[
-    (1, Ask::Set(b"v"), b"done"),
-    (0, Ask::Get, b"missing"),
-    (1, Ask::Get, b"v"),
-    (0, Ask::Set(b"w"), b"done"),
-    (1, Ask::Set(b"w"), b"exists"),
-    (1, Ask::Get, b"v"),
-    (0, Ask::Get, b"w"),
-    (1, Ask::Del, b"done"),
-    (1, Ask::Get, b"missing"),
-    (0, Ask::Get, b"w"),
+    (1, What::Set(b"v"), b"done"),
+    (0, What::Get, b"missing"),
+    (1, What::Get, b"v"),
+    (0, What::Set(b"w"), b"done"),
+    (1, What::Set(b"w"), b"exists"),
+    (1, What::Get, b"v"),
+    (0, What::Get, b"w"),
+    (1, What::Del, b"done"),
+    (1, What::Get, b"missing"),
+    (0, What::Get, b"w"),
 ];
 
 fn conf_of(alloc: Global) -> CacheConf
@@ -60,16 +60,16 @@ fn two_confs(alloc: Global) -> Result<CacheConfList, Memory>
     Ok(confs)
 }
 
-fn call_of(alloc: Global, ask: Ask) -> Result<Call, Memory> {
+fn call_of(alloc: Global, what: What) -> Result<Call, Memory> {
     let key = Bytes::from_slice(alloc, b"k")?;
-    Ok(match ask {
-        Ask::Get => Call::Get { key },
-        Ask::Set(value) => Call::Set {
+    Ok(match what {
+        What::Get => Call::Get { key },
+        What::Set(value) => Call::Set {
             key,
             value: Bytes::from_slice(alloc, value)?,
             ttl: 0,
         },
-        Ask::Del => Call::Del { key },
+        What::Del => Call::Del { key },
     })
 }
 
@@ -83,28 +83,22 @@ fn text(answer: &Answer) -> &[u8] {
     }
 }
 
-/// Asks any desk, with any life.
-fn asked<D: Desk, L: Life>(
-    desk: &mut D,
-    alloc: Global,
-    cache: u32,
-    call: &Call,
-    life: &mut L,
-) -> Result<Answer, DeskFault>
-    requires known { cache < D.caches desk.old }
-    requires alive { L.alive life.old ≡ true }
-    ensures { D.caches desk.new ≡ D.caches desk.old }
-{
-    desk.cache(alloc, cache, 10, call, life)
-}
-
 #[test]
 fn each_cache_of_a_desk_answers_for_itself(rt: HostRuntime) -> Result<(), Fail> {
     let mut desk = ListDesk::new(rt.alloc(), &two_confs(rt.alloc())?)?;
     for (number, (cache, what, want)) in ROWS.iter().enumerate() {
         assert!(rt; *cache < 2);
-        let call = call_of(rt.alloc(), *what)?;
-        let answer = asked(&mut desk, rt.alloc(), *cache, &call, &mut Immortal::new())?;
+        let ask = Ask::Cache {
+            cache: *cache,
+            call: call_of(rt.alloc(), *what)?,
+        };
+        let AskAnswer::Cache(answer) = make_ask(
+            rt.alloc(),
+            &mut desk,
+            10,
+            &ask,
+            &mut Immortal::new(),
+        )?;
         assert_eq!(rt; text(&answer), *want, "row {number}");
     }
     Ok(())
