@@ -3,7 +3,7 @@ ghost use Rattle.std.specs.Prelude.{◌≡◌, ◌≢◌, ◌==◌, ◌+◌, ◌
 ghost use Rattle.std.specs.Slots.{slots_items, slots_len, IsFull};
 ghost use mathlib.Core.Option.{some};
 ghost use lib.ListN.{get_elem?};
-ghost use Rattle.uw_lock.specs.LockRule.{StartsWith, HasOwn, owned, IsAtRest, HasTaken, IsWhole, IsLeftHeld, IsOnly};
+ghost use Rattle.uw_lock.specs.LockRule.{StartsWith, GrewByOthers, HasOwn, owned, IsAtRest, HasTaken, IsWhole, IsLeftHeld, IsOnly};
 
 use crate::kept::Kept;
 use crate::pass::Pass;
@@ -74,7 +74,7 @@ impl<K: Kept> RobustLock<K> {
     pub fn turn<R: Wait>(&self, rt: &R, pass: Pass<K>) -> Turn<'_, K>
         requires { pass.lock ≡ self.now }
         ensures pass { result.pass ≡ record pass { seen = result.pass.seen; word = result.pass.word } }
-        ensures seen { StartsWith result.pass.seen pass.seen }
+        ensures seen { GrewByOthers pass.number result.pass.seen pass.seen }
         ensures own { HasOwn result.pass }
         ensures conf { result.pass.conf ≡ Some (K.conf result.value) }
         ensures stands { K.stands result.value result.pass.seen }
@@ -92,7 +92,7 @@ impl<K: Kept> RobustLock<K> {
                     dead,
                 };
             }
-            thread::yield_now();
+            self.wait_while_held(rt);
         }
         unreachable!()
     }
@@ -102,7 +102,7 @@ impl<K: Kept> RobustLock<K> {
         requires { (a.old.lock ≡ self.now) × (b.old.lock ≡ self.now) }
         ensures a { a.new ≡ record a.old { seen = a.new.seen } }
         ensures b { b.new ≡ b.old }
-        ensures seen { StartsWith a.new.seen a.old.seen }
+        ensures seen { GrewByOthers a.old.number a.new.seen a.old.seen }
         ensures met { StartsWith a.new.seen b.new.seen }
         ensures own { HasOwn a.new × HasOwn b.new }
     {
@@ -128,6 +128,16 @@ impl<K: Kept> RobustLock<K> {
         ensures { (result.now.table_id ≡ self.now) × (self.now.words ≡ 2) × (self.now.slots ≡ 1) }
     {
         &self.table.shared
+    }
+
+    // Looks until the owner word isn't 1. A look writes nothing, so it takes nothing from the holder.
+    fn wait_while_held<R: Wait>(&self, rt: &R) {
+        for _ in rt.forever() {
+            if self.table.shared.peek(OWNER) != HELD {
+                return;
+            }
+            thread::yield_now();
+        }
     }
 
     // One try to take the lock: the value, and whether the last holder died.
