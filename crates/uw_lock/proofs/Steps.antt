@@ -11,7 +11,7 @@ use Rattle.atomic_table.specs.Seated.{TableId}
 use Rattle.atomic_table.proofs.Lists.{set_here, set_else, set_again, at_longer}
 use Rattle.uw_lock.specs.declared.entries.Made.{Made}
 use Rattle.uw_lock.specs.declared.entries.View.{View}
-use Rattle.uw_lock.specs.LockRule.{StartsWith, first_view, with_entry, IsAtRest, Fits, HoldsHistory, Taken, Looked, Noted, Left, IsEnding, IsLast, IsWhole, IsLeftHeld, known, made, divided, granted, bare, informed}
+use Rattle.uw_lock.specs.LockRule.{StartsWith, first_view, with_entry, IsAtRest, Fits, HoldsHistory, Taken, Looked, Noted, Left, IsEnding, IsLast, IsWhole, MayBeLeftHeld, known, made, divided, granted, bare, informed}
 use Rattle.uw_lock.proofs.Histories.{starts_same, starts_longer, grown_by_others, noted_mine, other_mine, owns-zero, owns_any, all_mine, divided_owns, granted_owns, divided_mine, granted_mine, halves_differ}
 use Rattle.uw_lock.proofs.Seats.{at_below, same_place, each_set, each_end, Apart, OwnsOf, apart_set, apart_end}
 
@@ -315,7 +315,7 @@ module _ {K E C : Type 0} (stands : K → List (Made E) → Type 0) (pending : K
       (r.history, h.2.0, grown_by_others v.number r.history v.seen v.mine g.0 n.1.0 n.2.0, n.1.0, n.0 ∙ ap Some (sym h.2.1))
 
   pub closes_held : (lock : TableId) (id : ℕ) (v : View E C) (ws : List ℕ) (xs : List (Option K)) → v.holds ≡ false → Last id v ws xs → get_elem? ws 0 ≡ some 1
-      → IsLeftHeld stands pending conf (known lock v)
+      → MayBeLeftHeld stands pending conf (known lock v)
   closes_held lock id v ws xs idle f held = let wide = f.1.0.wide in
       let one : owner f.0 ≡ 1 = some-injective (owner f.0) 1 (sym (word_at f.0.words 0 (omega arith)) ∙ (ap (λ (l : List ℕ). get_elem? l 0) f.2 ∙ held)) in
       (c, f.0, id, v, f.1.0, one, f.1.1, refl, idle)

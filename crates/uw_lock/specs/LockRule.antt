@@ -154,9 +154,9 @@ module _ {K E C : Type 0} (stands : K → List (Made E) → Type 0) (pending : K
   abbrev pub IsWhole : Known E C → K → Type 0
   IsWhole p value = (history : List (Made E)) × stands value history × GrewByOthers p.number history p.seen × (entries_by p.number history ≡ p.mine) × (p.conf ≡ Some (conf value))
 
-  -- some seat other than the pass's holds the lock
-  abbrev pub IsLeftHeld : Known E C → Type 0
-  IsLeftHeld p = (c : C) × (s : State (Option K) (View E C)) × (id : ℕ) × (v : View E C) × HoldsHistory c s × (slice_index s.words 0 ≡ 1) × (get_elem? s.views id ≡ some v) × (known p.lock v ≡ p) × (v.holds ≡ false)
+  -- there is a state of the rule in which the pass is as it is, and a seat other than its own holds the lock
+  abbrev pub MayBeLeftHeld : Known E C → Type 0
+  MayBeLeftHeld p = (c : C) × (s : State (Option K) (View E C)) × (id : ℕ) × (v : View E C) × HoldsHistory c s × (slice_index s.words 0 ≡ 1) × (get_elem? s.views id ≡ some v) × (known p.lock v ≡ p) × (v.holds ≡ false)
 
   -- what the swap that tries to take the lock tells where it did
   abbrev pub Took : Me (Option K) (View E C) → ℕ → Me (Option K) (View E C) → Type 0

@@ -3,7 +3,7 @@ ghost use Rattle.std.specs.Prelude.{◌≡◌, ◌≢◌, ◌==◌, ◌+◌, ◌
 ghost use Rattle.std.specs.Slots.{slots_items, slots_len, IsFull};
 ghost use mathlib.Core.Option.{some};
 ghost use lib.ListN.{get_elem?};
-ghost use Rattle.uw_lock.specs.LockRule.{StartsWith, GrewByOthers, HasOwn, owned, IsAtRest, HasTaken, IsWhole, IsLeftHeld, IsOnly};
+ghost use Rattle.uw_lock.specs.LockRule.{StartsWith, GrewByOthers, HasOwn, owned, IsAtRest, HasTaken, IsWhole, MayBeLeftHeld, IsOnly};
 
 use crate::kept::Kept;
 use crate::pass::Pass;
@@ -69,8 +69,8 @@ impl<K: Kept> RobustLock<K> {
         }
     }
 
-    /// Waits until the lock is got. The pass has then seen the whole history, for which the value stands. Only where the
-    /// last holder died, an intent may be pending.
+    /// Waits until the lock is got. The pass has then seen the whole history, for which the value stands: what it had
+    /// seen before, and others' entries. Only where the last holder died, an intent may be pending.
     pub fn turn<R: Wait>(&self, rt: &R, pass: Pass<K>) -> Turn<'_, K>
         requires { pass.lock ≡ self.now }
         ensures pass { result.pass ≡ record pass { seen = result.pass.seen; word = result.pass.word } }
@@ -111,12 +111,12 @@ impl<K: Kept> RobustLock<K> {
         self.table.shared.load::<Look<K>>(&mut a.seat, COUNT);
     }
 
-    /// The value, which stands for the whole history. `None` comes only where the lock is still held, since a turn of
-    /// another pass was dropped without being left.
+    /// The value, which stands for the whole history; `None` where the lock is still held, since a turn of another pass
+    /// was dropped without being left. Of a `None` the contract says that the rule has such a state with this pass.
     pub fn close(self, pass: Pass<K>) -> Option<K>
         requires { pass.lock ≡ self }
         ensures value { IfSome result (λ v. IsWhole K.stands K.pending K.conf pass v) }
-        ensures none { IfNone result (IsLeftHeld K.stands K.pending K.conf pass) }
+        ensures none { IfNone result (MayBeLeftHeld K.stands K.pending K.conf pass) }
         ensures alone { IsOnly pass → IsSome result }
     {
         let RobustLock { table } = self;
