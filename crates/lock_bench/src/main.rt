@@ -4,12 +4,11 @@
 #![tactic(auto)]
 
 ghost use Rattle.std.specs.Prelude.{◌≡◌, ◌+◌, length};
-ghost use Rattle.uw_lock.specs.LockRule.{HasOwn};
 
 mod counter;
 
 use crate::counter::Counter;
-use std::alloc::{AllocError, Global};
+use std::alloc::Global;
 use std::process::ExitCode;
 use std::rt::Env;
 use std::sync::Wait;
@@ -102,15 +101,15 @@ fn by_four<R: Threads + Wait + Sync>(
     first.0
 }
 
-// How many turns were made: `None` where there was no memory for the lock.
+// How many turns were made: `None` for another number of threads, or where there was no memory for the lock.
 fn measure<R: Threads + Wait + Sync>(rt: &R, alloc: Global, load: Load) -> Option<u64> {
     let Ok((lock, pass)) = RobustLock::new(alloc, Counter::new()) else {
         return None;
     };
-    let pass = if load.threads == 4 {
-        by_four(rt, &lock, pass, load.each)
-    } else {
-        take_turns(rt, &lock, pass, load.each)
+    let pass = match load.threads {
+        1 => take_turns(rt, &lock, pass, load.each),
+        4 => by_four(rt, &lock, pass, load.each),
+        _ => return None,
     };
     Some(lock.close(pass)?.turns())
 }
