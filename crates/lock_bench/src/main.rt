@@ -3,7 +3,8 @@
 //! threads takes ten. `bench/lock` times it.
 #![tactic(auto)]
 
-ghost use Rattle.std.specs.Prelude.{◌≡◌, ◌+◌, length};
+ghost use Rattle.std.specs.Prelude.{◌≡◌};
+ghost use Rattle.lock_bench.specs.Turns.{TookTurns};
 
 mod counter;
 
@@ -36,8 +37,7 @@ fn take_turns<R: Wait>(
     count: u64,
 ) -> Pass<Counter>
     requires { pass.lock ≡ lock.now }
-    ensures lock { result.lock ≡ lock.now }
-    ensures mine { length result.mine ≡ length pass.mine + count }
+    ensures { TookTurns pass result count }
 {
     let mut pass = pass;
     for _ in 0..count {
@@ -58,17 +58,17 @@ fn by_two<R: Threads + Wait + Sync>(
     count: u64,
 ) -> (Pass<Counter>, Pass<Counter>)
     requires { (one.lock ≡ lock.now) × (two.lock ≡ lock.now) }
-    ensures { (result.0.lock ≡ lock.now) × (result.1.lock ≡ lock.now) }
+    ensures { TookTurns one result.0 count × TookTurns two result.1 count }
 {
     thread::join(
         rt,
         move || -> Pass<Counter>
             requires { one.lock ≡ lock.now }
-            ensures { result.lock ≡ lock.entry.now }
+            ensures { TookTurns one result count }
         { take_turns(rt, lock, one, count) },
         move || -> Pass<Counter>
             requires { two.lock ≡ lock.now }
-            ensures { result.lock ≡ lock.entry.now }
+            ensures { TookTurns two result count }
         { take_turns(rt, lock, two, count) },
     )
 }
@@ -81,7 +81,7 @@ fn by_four<R: Threads + Wait + Sync>(
     count: u64,
 ) -> Pass<Counter>
     requires { pass.lock ≡ lock.now }
-    ensures { result.lock ≡ lock.now }
+    ensures { TookTurns pass result count }
 {
     let mut one = pass;
     let mut two = lock.pass(&mut one);
@@ -91,11 +91,11 @@ fn by_four<R: Threads + Wait + Sync>(
         rt,
         move || -> (Pass<Counter>, Pass<Counter>)
             requires { (one.lock ≡ lock.now) × (two.lock ≡ lock.now) }
-            ensures { (result.0.lock ≡ lock.entry.now) × (result.1.lock ≡ lock.entry.now) }
+            ensures { TookTurns one result.0 count × TookTurns two result.1 count }
         { by_two(rt, lock, one, two, count) },
         move || -> (Pass<Counter>, Pass<Counter>)
             requires { (three.lock ≡ lock.now) × (four.lock ≡ lock.now) }
-            ensures { (result.0.lock ≡ lock.entry.now) × (result.1.lock ≡ lock.entry.now) }
+            ensures { TookTurns three result.0 count × TookTurns four result.1 count }
         { by_two(rt, lock, three, four, count) },
     );
     first.0

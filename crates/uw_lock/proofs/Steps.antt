@@ -311,8 +311,14 @@ module _ {K E C : Type 0} (stands : K → List (Made E) → Type 0) (pending : K
       → IsWhole stands pending conf (known lock v) x
   closes_whole lock id v ws xs x some_step f other there =
       let r = f.1.0 in let h = r.home (not_held id v ws xs f other) in let g = r.fits id v f.1.1 in let n = g.2 some_step in
-      subst (IsWhole stands pending conf (known lock v)) (some_same h.0 x (some-injective (Some h.0) (Some x) (sym (f.4 0 (Some h.0) h.1) ∙ there)))
-      (r.history, h.2.0, grown_by_others v.number r.history v.seen v.mine g.0 n.1.0 n.2.0, n.1.0, n.0 ∙ ap Some (sym h.2.1))
+      subst (IsWhole stands pending conf (known lock v)) (some_same h.0 x (some-injective (Some h.0) (Some x) (sym (f.4 0 (Some h.0) h.1) ∙ there))) (
+        r.history,
+        h.2.0,
+        grown_by_others v.number r.history v.seen v.mine g.0 n.1.0 n.2.0,
+        n.1.0,
+        n.0 ∙ ap Some (sym h.2.1),
+        λ only. all_mine v r.history only.0 only.1 n.1 ∙ sym (all_mine v v.seen only.0 only.1 n.2),
+      )
 
   pub closes_held : (lock : TableId) (id : ℕ) (v : View E C) (ws : List ℕ) (xs : List (Option K)) → v.holds ≡ false → Last id v ws xs → get_elem? ws 0 ≡ some 1
       → MayBeLeftHeld stands pending conf (known lock v)

@@ -150,9 +150,10 @@ module _ {K E C : Type 0} (stands : K → List (Made E) → Type 0) (pending : K
     pub fits : AllFit c history s.views
     pub apart : AreApart s.views
 
-  -- what a lock is left with: the value stands for a history, which is all that the pass has seen and after that others' entries, and has of its number just its own
+  -- what a lock is left with: the value stands for a history, which is all that the pass has seen and after that others' entries, and has of its number just its own;
+  -- where the pass is the only one, there are no others
   abbrev pub IsWhole : Known E C → K → Type 0
-  IsWhole p value = (history : List (Made E)) × stands value history × GrewByOthers p.number history p.seen × (entries_by p.number history ≡ p.mine) × (p.conf ≡ Some (conf value))
+  IsWhole p value = (history : List (Made E)) × stands value history × GrewByOthers p.number history p.seen × (entries_by p.number history ≡ p.mine) × (p.conf ≡ Some (conf value)) × (IsOnly p → history ≡ p.seen)
 
   -- there is a state of the rule in which the pass is as it is, and a seat other than its own holds the lock
   abbrev pub MayBeLeftHeld : Known E C → Type 0
