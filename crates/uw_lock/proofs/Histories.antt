@@ -1,13 +1,13 @@
 -- Histories: how one begins another, and the entries of a number.
 use Rattle.std.proofs.Common.{◌≡◌, ◌≢◌, ℕ, suc, ◌+◌, ◌-◌, ◌*◌, ◌<◌, ◌≤◌, Bool, true, false, if◌then◌else◌, eqb, List, [], ◌∷◌, ◌++◌, sym, refl, ap, ◌∙◌, subst, arith, mul-le-mul_right, suc-mul}
 use Rattle.std.proofs.lemmas.Bool.{eq-eqb, ne_eqb}
-use Rattle.std.proofs.lemmas.List.{append_assoc, append-nil}
+use Rattle.std.proofs.lemmas.List.{append_assoc, append-nil, append_cancel_left}
 use Rattle.std.proofs.Math.Nat.{mul_assoc}
 use mathlib.Core.Logic.{dite}
 use native.Mathlib.Decide.{dec_le, ℕ_discrete}
 use Rattle.uw_lock.specs.declared.entries.Made.{Made}
 use Rattle.uw_lock.specs.declared.entries.View.{View}
-use Rattle.uw_lock.specs.LockRule.{StartsWith, entries_by, owns, HasJustMine, divided, granted, with_entry}
+use Rattle.uw_lock.specs.LockRule.{StartsWith, GrewByOthers, entries_by, owns, HasJustMine, divided, granted, with_entry}
 
 module _ {E : Type 0} where
   pub starts_same : (all : List (Made E)) → StartsWith all all
@@ -29,6 +29,15 @@ module _ {E : Type 0} where
 
   pub entries_by-none : (n : ℕ) (e : Made E) → e.by ≢ n → entries_by n (e ∷ []) ≡ []
   entries_by-none n e other = ap (λ (b : Bool). if b then e ∷ [] else []) (ne_eqb e.by n other)
+
+  -- where the longer history has no more entries of a number than its beginning, what comes after is of others
+  pub grown_by_others : (n : ℕ) (all begin mine : List (Made E)) → StartsWith all begin → entries_by n all ≡ mine → entries_by n begin ≡ mine → GrewByOthers n all begin
+  grown_by_others n all begin mine s whole first = (
+    s.0,
+    s.1,
+    append_cancel_left mine (entries_by n s.0) []
+        (ap (λ (l : List (Made E)). l ++ entries_by n s.0) (sym first) ∙ (sym (entries_by-append n begin s.0) ∙ (sym (ap (entries_by n) s.1) ∙ (whole ∙ sym (append-nil mine))))),
+  )
 
   by_head_same : (n : ℕ) (x : Made E) (xs : List (Made E)) → x.by ≡ n → entries_by n (x ∷ xs) ≡ x ∷ entries_by n xs
   by_head_same n x xs e = ap (λ (b : Bool). if b then x ∷ entries_by n xs else entries_by n xs) (eq-eqb x.by n e)

@@ -11,8 +11,8 @@ use Rattle.atomic_table.specs.Seated.{TableId}
 use Rattle.atomic_table.proofs.Lists.{set_here, set_else, set_again, at_longer}
 use Rattle.uw_lock.specs.declared.entries.Made.{Made}
 use Rattle.uw_lock.specs.declared.entries.View.{View}
-use Rattle.uw_lock.specs.LockRule.{StartsWith, first_view, with_entry, IsAtRest, Fits, HoldsHistory, Taken, Looked, Noted, Left, IsEnding, IsLast, IsWhole, IsLeftHeld, known, made, divided, granted, bare, informed}
-use Rattle.uw_lock.proofs.Histories.{starts_same, starts_longer, noted_mine, other_mine, owns-zero, owns_any, all_mine, divided_owns, granted_owns, divided_mine, granted_mine, halves_differ}
+use Rattle.uw_lock.specs.LockRule.{StartsWith, first_view, with_entry, IsAtRest, Fits, HoldsHistory, Taken, Looked, Noted, Left, IsEnding, IsLast, IsWhole, MayBeLeftHeld, known, made, divided, granted, bare, informed}
+use Rattle.uw_lock.proofs.Histories.{starts_same, starts_longer, grown_by_others, noted_mine, other_mine, owns-zero, owns_any, all_mine, divided_owns, granted_owns, divided_mine, granted_mine, halves_differ}
 use Rattle.uw_lock.proofs.Seats.{at_below, same_place, each_set, each_end, Apart, OwnsOf, apart_set, apart_end}
 
 word_at : (l : List ℕ) (i : ℕ) → i < length l → get_elem? l i ≡ some (get_or l i 0)
@@ -103,7 +103,7 @@ module _ {K E C : Type 0} (stands : K → List (Made E) → Type 0) (pending : K
             h.0,
             refl,
             refl,
-            f.0,
+            grown_by_others m.0.number r.history m.0.seen m.0.mine f.0 n.1.0 n.2.0,
             n.1,
             n.0 ∙ ap Some (sym h.2.1),
             h.2.0,
@@ -252,7 +252,7 @@ module _ {K E C : Type 0} (stands : K → List (Made E) → Type 0) (pending : K
     tt,
     subst (λ (l : List ℕ). Rule (record { words = l; homes = s.homes; views = set s.views id w })) (sym (stored_again s.words 1 (get_or s.words 1 0) (omega arith) refl))
         (review s r id m.0 w at idle idle (starts_same r.history, (r.history, refl), λ _. (n.0, n.1, n.1)) (owns_same m.0) (keeps_same m.0)),
-    (refl, refl, f.0, f.1, n.1),
+    (refl, refl, grown_by_others m.0.number r.history m.0.seen m.0.mine f.0 n.1.0 n.2.0, f.1, n.1),
   )
 
   -- the split that grants a new pass every second number
@@ -311,11 +311,17 @@ module _ {K E C : Type 0} (stands : K → List (Made E) → Type 0) (pending : K
       → IsWhole stands pending conf (known lock v) x
   closes_whole lock id v ws xs x some_step f other there =
       let r = f.1.0 in let h = r.home (not_held id v ws xs f other) in let g = r.fits id v f.1.1 in let n = g.2 some_step in
-      subst (IsWhole stands pending conf (known lock v)) (some_same h.0 x (some-injective (Some h.0) (Some x) (sym (f.4 0 (Some h.0) h.1) ∙ there)))
-      (r.history, h.2.0, g.0, n.1.0, n.0 ∙ ap Some (sym h.2.1))
+      subst (IsWhole stands pending conf (known lock v)) (some_same h.0 x (some-injective (Some h.0) (Some x) (sym (f.4 0 (Some h.0) h.1) ∙ there))) (
+        r.history,
+        h.2.0,
+        grown_by_others v.number r.history v.seen v.mine g.0 n.1.0 n.2.0,
+        n.1.0,
+        n.0 ∙ ap Some (sym h.2.1),
+        λ only. all_mine v r.history only.0 only.1 n.1 ∙ sym (all_mine v v.seen only.0 only.1 n.2),
+      )
 
   pub closes_held : (lock : TableId) (id : ℕ) (v : View E C) (ws : List ℕ) (xs : List (Option K)) → v.holds ≡ false → Last id v ws xs → get_elem? ws 0 ≡ some 1
-      → IsLeftHeld stands pending conf (known lock v)
+      → MayBeLeftHeld stands pending conf (known lock v)
   closes_held lock id v ws xs idle f held = let wide = f.1.0.wide in
       let one : owner f.0 ≡ 1 = some-injective (owner f.0) 1 (sym (word_at f.0.words 0 (omega arith)) ∙ (ap (λ (l : List ℕ). get_elem? l 0) f.2 ∙ held)) in
       (c, f.0, id, v, f.1.0, one, f.1.1, refl, idle)

@@ -20,6 +20,10 @@ module _ {E : Type 0} where
   entries_by number [] = []
   entries_by number (x ∷ xs) = if x.by == number then x ∷ entries_by number xs else entries_by number xs
 
+  -- the history `all` begins with `begin`, and what comes after it has no entry of this number
+  abbrev pub GrewByOthers : ℕ → List (Made E) → List (Made E) → Type 0
+  GrewByOthers number all begin = (others : List (Made E)) × (all ≡ begin ++ others) × (entries_by number others ≡ [])
+
 -- what a contract sees of a pass
 pub record Known (E C : Type 0) : Type 0 where
   pub lock : TableId
@@ -146,18 +150,19 @@ module _ {K E C : Type 0} (stands : K → List (Made E) → Type 0) (pending : K
     pub fits : AllFit c history s.views
     pub apart : AreApart s.views
 
-  -- what a lock is left with: the value stands for a history that begins with all that the pass has seen, and has of its number just its own entries
+  -- what a lock is left with: the value stands for a history, which is all that the pass has seen and after that others' entries, and has of its number just its own;
+  -- where the pass is the only one, there are no others
   abbrev pub IsWhole : Known E C → K → Type 0
-  IsWhole p value = (history : List (Made E)) × stands value history × StartsWith history p.seen × (entries_by p.number history ≡ p.mine) × (p.conf ≡ Some (conf value))
+  IsWhole p value = (history : List (Made E)) × stands value history × GrewByOthers p.number history p.seen × (entries_by p.number history ≡ p.mine) × (p.conf ≡ Some (conf value)) × (IsOnly p → history ≡ p.seen)
 
-  -- some seat other than the pass's holds the lock
-  abbrev pub IsLeftHeld : Known E C → Type 0
-  IsLeftHeld p = (c : C) × (s : State (Option K) (View E C)) × (id : ℕ) × (v : View E C) × HoldsHistory c s × (slice_index s.words 0 ≡ 1) × (get_elem? s.views id ≡ some v) × (known p.lock v ≡ p) × (v.holds ≡ false)
+  -- there is a state of the rule in which the pass is as it is, and a seat other than its own holds the lock
+  abbrev pub MayBeLeftHeld : Known E C → Type 0
+  MayBeLeftHeld p = (c : C) × (s : State (Option K) (View E C)) × (id : ℕ) × (v : View E C) × HoldsHistory c s × (slice_index s.words 0 ≡ 1) × (get_elem? s.views id ≡ some v) × (known p.lock v ≡ p) × (v.holds ≡ false)
 
   -- what the swap that tries to take the lock tells where it did
   abbrev pub Took : Me (Option K) (View E C) → ℕ → Me (Option K) (View E C) → Type 0
   Took m found n =
-      (value : K) × (n.1 ≡ (0, Some value) ∷ m.1) × (n.0 ≡ record m.0 { seen = n.0.seen; holds = true; word = found }) × StartsWith n.0.seen m.0.seen × HasJustMine n.0 n.0.seen
+      (value : K) × (n.1 ≡ (0, Some value) ∷ m.1) × (n.0 ≡ record m.0 { seen = n.0.seen; holds = true; word = found }) × GrewByOthers m.0.number n.0.seen m.0.seen × HasJustMine n.0 n.0.seen
       × (n.0.conf ≡ Some (conf value)) × stands value n.0.seen × (found ≢ 2 → pending value ≡ false) × (m.0.number ≡ 0 → m.0.step ≡ 1 → (found ≡ m.0.word) × (n.0.seen ≡ m.0.seen))
 
   abbrev pub Taken : Step (Option K) → Me (Option K) (View E C) → ℕ → Me (Option K) (View E C) → Type 0
@@ -166,14 +171,14 @@ module _ {K E C : Type 0} (stands : K → List (Made E) → Type 0) (pending : K
   -- the seat holds the lock, and its value is in hand
   abbrev pub HasTaken : Me (Option K) (View E C) → K → Bool → Me (Option K) (View E C) → Type 0
   HasTaken m value dead n =
-      (n.1 ≡ (0, None) ∷ []) × (n.0 ≡ record m.0 { seen = n.0.seen; holds = true; word = n.0.word }) × StartsWith n.0.seen m.0.seen × HasJustMine n.0 n.0.seen
+      (n.1 ≡ (0, None) ∷ []) × (n.0 ≡ record m.0 { seen = n.0.seen; holds = true; word = n.0.word }) × GrewByOthers m.0.number n.0.seen m.0.seen × HasJustMine n.0 n.0.seen
       × (n.0.conf ≡ Some (conf value)) × stands value n.0.seen × (dead ≡ (n.0.word == 2)) × (n.0.word ≢ 2 → pending value ≡ false) × (m.0.number ≡ 0 → m.0.step ≡ 1 → (n.0.word ≡ m.0.word) × (n.0.seen ≡ m.0.seen))
 
 module _ {K E C : Type 0} where
   -- the history so far was seen
   abbrev pub Looked : Step (Option K) → Me (Option K) (View E C) → ℕ → Me (Option K) (View E C) → Type 0
   Looked st m found n =
-      (n.1 ≡ m.1) × (n.0 ≡ record m.0 { seen = n.0.seen; told = [] }) × StartsWith n.0.seen m.0.seen × StartsWith n.0.seen m.0.told × HasJustMine n.0 n.0.seen
+      (n.1 ≡ m.1) × (n.0 ≡ record m.0 { seen = n.0.seen; told = [] }) × GrewByOthers m.0.number n.0.seen m.0.seen × StartsWith n.0.seen m.0.told × HasJustMine n.0 n.0.seen
 
   -- the entry is the last of what was seen, and of the seat's own
   abbrev pub Noted : ℕ → ℕ → Option E → Step (Option K) → Me (Option K) (View E C) → ℕ → Me (Option K) (View E C) → Type 0

@@ -3,7 +3,7 @@ ghost use Rattle.std.specs.Prelude.{◌≡◌, ◌≢◌, ◌==◌, ◌+◌, ◌
 ghost use Rattle.std.specs.Slots.{slots_items, slots_len, IsFull};
 ghost use mathlib.Core.Option.{some};
 ghost use lib.ListN.{get_elem?};
-ghost use Rattle.uw_lock.specs.LockRule.{StartsWith, HasOwn, owned, IsAtRest, HasTaken, IsWhole, IsLeftHeld, IsOnly};
+ghost use Rattle.uw_lock.specs.LockRule.{StartsWith, GrewByOthers, HasOwn, owned, IsAtRest, HasTaken, IsWhole, MayBeLeftHeld, IsOnly};
 
 use crate::kept::Kept;
 use crate::pass::Pass;
@@ -69,12 +69,12 @@ impl<K: Kept> RobustLock<K> {
         }
     }
 
-    /// Waits until the lock is got. The pass has then seen the whole history, for which the value stands. Only where the
-    /// last holder died, an intent may be pending.
+    /// Waits until the lock is got. The pass has then seen the whole history, for which the value stands: what it had
+    /// seen before, and others' entries. Only where the last holder died, an intent may be pending.
     pub fn turn<R: Wait>(&self, rt: &R, pass: Pass<K>) -> Turn<'_, K>
         requires { pass.lock ≡ self.now }
         ensures pass { result.pass ≡ record pass { seen = result.pass.seen; word = result.pass.word } }
-        ensures seen { StartsWith result.pass.seen pass.seen }
+        ensures seen { GrewByOthers pass.number result.pass.seen pass.seen }
         ensures own { HasOwn result.pass }
         ensures conf { result.pass.conf ≡ Some (K.conf result.value) }
         ensures stands { K.stands result.value result.pass.seen }
@@ -92,7 +92,7 @@ impl<K: Kept> RobustLock<K> {
                     dead,
                 };
             }
-            thread::yield_now();
+            self.wait_while_held(rt);
         }
         unreachable!()
     }
@@ -102,7 +102,7 @@ impl<K: Kept> RobustLock<K> {
         requires { (a.old.lock ≡ self.now) × (b.old.lock ≡ self.now) }
         ensures a { a.new ≡ record a.old { seen = a.new.seen } }
         ensures b { b.new ≡ b.old }
-        ensures seen { StartsWith a.new.seen a.old.seen }
+        ensures seen { GrewByOthers a.old.number a.new.seen a.old.seen }
         ensures met { StartsWith a.new.seen b.new.seen }
         ensures own { HasOwn a.new × HasOwn b.new }
     {
@@ -111,12 +111,12 @@ impl<K: Kept> RobustLock<K> {
         self.table.shared.load::<Look<K>>(&mut a.seat, COUNT);
     }
 
-    /// The value, which stands for the whole history. `None` comes only where the lock is still held, since a turn of
-    /// another pass was dropped without being left.
+    /// The value, which stands for the whole history; `None` where the lock is still held, since a turn of another pass
+    /// was dropped without being left. Of a `None` the contract says that the rule has such a state with this pass.
     pub fn close(self, pass: Pass<K>) -> Option<K>
         requires { pass.lock ≡ self }
         ensures value { IfSome result (λ v. IsWhole K.stands K.pending K.conf pass v) }
-        ensures none { IfNone result (IsLeftHeld K.stands K.pending K.conf pass) }
+        ensures none { IfNone result (MayBeLeftHeld K.stands K.pending K.conf pass) }
         ensures alone { IsOnly pass → IsSome result }
     {
         let RobustLock { table } = self;
@@ -128,6 +128,16 @@ impl<K: Kept> RobustLock<K> {
         ensures { (result.now.table_id ≡ self.now) × (self.now.words ≡ 2) × (self.now.slots ≡ 1) }
     {
         &self.table.shared
+    }
+
+    // Looks until the owner word isn't 1. A look writes nothing, so it takes nothing from the holder.
+    fn wait_while_held<R: Wait>(&self, rt: &R) {
+        for _ in rt.forever() {
+            if self.table.shared.peek(OWNER) != HELD {
+                return;
+            }
+            thread::yield_now();
+        }
     }
 
     // One try to take the lock: the value, and whether the last holder died.

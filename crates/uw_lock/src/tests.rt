@@ -3,6 +3,8 @@ ghost use Rattle.std.specs.Prelude.{◌≡◌, ◌<◌, ◌++◌, ◌∷◌, [],
 ghost use Rattle.uw_lock.specs.declared.entries.Made.{Made};
 ghost use Rattle.uw_lock.specs.LockRule.{StartsWith, HasOwn, IsOnly, made};
 
+mod journal;
+
 use super::*;
 use std::alloc::{AllocError, Global};
 use std::sync::Wait;

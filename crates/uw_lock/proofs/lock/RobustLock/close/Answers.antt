@@ -1,5 +1,5 @@
 use Rattle.std.proofs.Common.{subst, ap, ◌∙◌}
-use Rattle.uw_lock.specs.LockRule.{IsWhole, IsLeftHeld}
+use Rattle.uw_lock.specs.LockRule.{IsWhole, MayBeLeftHeld}
 use Rattle.uw_lock.proofs.Steps.{closes_home, closes_whole, closes_held, closes_alone, if_some, if_none, is_some}
 use Rattle.uw_lock.proofs.lock.RobustLock.close.Goals as goal
 
@@ -17,7 +17,7 @@ pub returns-clause-none : goal.returns-clause-none
 returns-clause-none g c =
     let stands = g.K.Kept.stands in let pending = g.K.Kept.pending in let conf = g.K.Kept.conf in let seat = c.into_seat-seat.result in let rest = c.into_seat-seat.ensures in
     if_none _ _ c.take_out.result
-    (λ h. subst (λ p. IsLeftHeld stands pending conf p) rest.0 (closes_held stands pending conf _ seat.table_id seat.id seat.me.0 _ _ rest.1.2 c.close_with.ensures.values.2 h))
+    (λ h. subst (λ p. MayBeLeftHeld stands pending conf p) rest.0 (closes_held stands pending conf _ seat.table_id seat.id seat.me.0 _ _ rest.1.2 c.close_with.ensures.values.2 h))
     c.take_out.ensures.none
 
 pub returns-clause-alone : goal.returns-clause-alone
