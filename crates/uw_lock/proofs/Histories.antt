@@ -7,7 +7,8 @@ use mathlib.Core.Logic.{dite}
 use native.Mathlib.Decide.{dec_le, ℕ_discrete}
 use Rattle.uw_lock.specs.declared.entries.Made.{Made}
 use Rattle.uw_lock.specs.declared.entries.View.{View}
-use Rattle.uw_lock.specs.LockRule.{StartsWith, GrewByOthers, entries_by, owns, HasJustMine, divided, granted, with_entry}
+use Rattle.uw_lock.specs.LockRule.{StartsWith, GrewByOthers, entries_by, owns, HasJustMine}
+use Rattle.uw_lock.specs.LockSteps.{divided, granted, with_entry}
 
 module _ {E : Type 0} where
   pub starts_same : (all : List (Made E)) → StartsWith all all

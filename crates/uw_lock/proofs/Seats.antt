@@ -4,7 +4,7 @@ use mathlib.Core.Option.{some, some-injective, some-ne-none}
 use lib.ListN.{get_elem?}
 use Rattle.atomic_table.proofs.Lists.{at_set}
 use Rattle.uw_lock.specs.declared.entries.View.{View}
-use Rattle.uw_lock.specs.LockRule.{owns, AreApart}
+use Rattle.uw_lock.specs.LockRule.{owns, HaveOwnNumbers}
 
 module _ {V : Type 0} where
   pub at_below : (l : List V) (i : ℕ) (a : V) → get_elem? l i ≡ some a → i < length l
@@ -46,7 +46,7 @@ module _ {E C : Type 0} where
   pub apart_of : (u v w : View E C) → OwnsOf v w → Apart v u → Apart w u
   apart_of u v w o a p q k l e = let z = o p in let t = z.1 k in a z.0 q t.0 l (sym t.1 ∙ e)
 
-  pub apart_set : (views : List (View E C)) (id : ℕ) (v w : View E C) → get_elem? views id ≡ some v → AreApart views → OwnsOf v w → AreApart (set views id w)
+  pub apart_set : (views : List (View E C)) (id : ℕ) (v w : View E C) → get_elem? views id ≡ some v → HaveOwnNumbers views → OwnsOf v w → HaveOwnNumbers (set views id w)
   apart_set views id v w at apart o i j a b ei ej differ =
       each_set (λ x u. x ≢ j → Apart u b) views id w
       (λ ne. each_set (λ y z. id ≢ y → Apart w z) views id w (λ no. absurd (no refl)) (λ y z other e no. apart_of z v w o (apart id y v z at e no)) j b ej ne)
@@ -54,7 +54,7 @@ module _ {E C : Type 0} where
       (λ no. apart_turned w u (apart_of u v w o (apart id x v u at e (λ same. other (sym same))))) (λ y z _ f no. apart x y u z e f no) j b ej ne)
       i a ei differ
 
-  pub apart_end : (views : List (View E C)) (w : View E C) → AreApart views → ((j : ℕ) (u : View E C) → get_elem? views j ≡ some u → Apart u w) → AreApart (views ++ w ∷ [])
+  pub apart_end : (views : List (View E C)) (w : View E C) → HaveOwnNumbers views → ((j : ℕ) (u : View E C) → get_elem? views j ≡ some u → Apart u w) → HaveOwnNumbers (views ++ w ∷ [])
   apart_end views w apart new i j a b ei ej differ =
       each_end (λ x u. x ≢ j → Apart u b) views w
       (λ ne. each_end (λ y z. length views ≢ y → Apart w z) views w (λ no. absurd (no refl)) (λ y z e no. apart_turned z w (new y z e)) j b ej ne)

@@ -11,7 +11,8 @@ use Rattle.atomic_table.specs.Seated.{TableId}
 use Rattle.atomic_table.proofs.Lists.{set_here, set_else, set_again, at_longer}
 use Rattle.uw_lock.specs.declared.entries.Made.{Made}
 use Rattle.uw_lock.specs.declared.entries.View.{View}
-use Rattle.uw_lock.specs.LockRule.{StartsWith, first_view, with_entry, IsAtRest, Fits, HoldsHistory, Taken, Looked, Noted, Left, IsEnding, IsLast, IsWhole, MayBeLeftHeld, known, made, divided, granted, bare, informed}
+use Rattle.uw_lock.specs.LockRule.{StartsWith, IsAtRest, Fits, HoldsHistory, IsLast, IsWhole, MayBeLeftHeld, known, made}
+use Rattle.uw_lock.specs.LockSteps.{first_view, with_entry, Taken, Looked, Noted, Left, IsEnding, divided, granted, bare, informed}
 use Rattle.uw_lock.proofs.Histories.{starts_same, starts_longer, grown_by_others, noted_mine, other_mine, owns-zero, owns_any, all_mine, divided_owns, granted_owns, divided_mine, granted_mine, halves_differ}
 use Rattle.uw_lock.proofs.Seats.{at_below, same_place, each_set, each_end, Apart, OwnsOf, apart_set, apart_end}
 

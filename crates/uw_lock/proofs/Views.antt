@@ -2,7 +2,8 @@
 use Rattle.std.proofs.Common.{◌≡◌, ℕ, [], Option, refl, sym, subst, arith}
 use Rattle.atomic_table.specs.Table.{Me}
 use Rattle.uw_lock.specs.declared.entries.View.{View}
-use Rattle.uw_lock.specs.LockRule.{IsAtRest, IsHolding, divided, granted, made, noted}
+use Rattle.uw_lock.specs.LockRule.{IsAtRest, IsHolding, made}
+use Rattle.uw_lock.specs.LockSteps.{divided, granted, noted}
 use Rattle.uw_lock.proofs.Histories.{divided_mine, granted_mine, noted_mine}
 
 module _ {K E C : Type 0} where

@@ -1,1 +1,2 @@
 pub mod LockRule
+pub mod LockSteps

@@ -1,4 +1,4 @@
--- What the lock's rule keeps, and what each kind of step tells.
+-- What the lock's rule keeps, and what contracts see of a pass and a turn.
 use Rattle.std.specs.Prelude.{◌≡◌, ◌≢◌, ℕ, ◌+◌, ◌*◌, ◌%◌, ◌^◌, ◌<◌, Bool, true, false, if◌then◌else◌, ◌==◌, List, [], ◌∷◌, ◌++◌, length, slice_index, Option, Some, None}
 use mathlib.Core.Option.{some, none}
 use lib.ListN.{get_elem?}
@@ -8,6 +8,7 @@ use Rattle.uw_lock.specs.declared.entries.Made.{Made}
 use Rattle.uw_lock.specs.declared.entries.View.{View}
 
 module _ {E : Type 0} where
+  -- an entry of a history
   abbrev pub made : ℕ → ℕ → E → Made E
   made number moment entry = record { by = number; moment = moment; entry = entry }
 
@@ -41,6 +42,7 @@ pub record Held (K E C : Type 0) : Type 0 where
   pub was_dead : Bool
 
 module _ {E C : Type 0} where
+  -- what a contract sees of a pass, by its view
   abbrev pub known : TableId → View E C → Known E C
   known lock v = record { lock = lock; number = v.number; step = v.step; seen = v.seen; mine = v.mine; conf = v.conf; word = v.word }
 
@@ -56,38 +58,13 @@ module _ {E C : Type 0} where
   abbrev pub IsOnly : Known E C → Type 0
   IsOnly p = (p.number ≡ 0) × (p.step ≡ 1)
 
+  -- the k-th number that a view owns
   abbrev pub owns : View E C → ℕ → ℕ
   owns v k = v.number + k * v.step
 
   -- of its number a history has just the view's own entries, and of its further numbers none
   abbrev pub HasJustMine : View E C → List (Made E) → Type 0
   HasJustMine v history = (entries_by v.number history ≡ v.mine) × ((k : ℕ) → entries_by (owns v (k + 1)) history ≡ [])
-
-  abbrev pub first_view : C → View E C
-  first_view c = record { number = 0; step = 1; seen = []; told = []; mine = []; conf = Some c; holds = false; word = 0 }
-
-  -- a pass that gives away every second of its numbers keeps the others
-  abbrev pub divided : View E C → View E C
-  divided v = record v { step = 2 * v.step }
-
-  abbrev pub granted : View E C → View E C
-  granted v = record v { number = v.number + v.step; step = 2 * v.step; mine = [] }
-
-  -- what was seen, with no number and no configuration: a message, or the spent view that is left of it
-  abbrev pub bare : List (Made E) → View E C
-  bare seen = record { number = 0; step = 0; seen = seen; told = []; mine = []; conf = None; holds = false; word = 0 }
-
-  abbrev pub message_of : View E C → View E C
-  message_of v = bare v.seen
-
-  abbrev pub informed : View E C → View E C → View E C
-  informed v w = record v { told = w.seen }
-
-  abbrev pub spent_view : View E C
-  spent_view = bare []
-
-  abbrev pub with_entry : View E C → Made E → View E C
-  with_entry v e = record v { seen = v.seen ++ e ∷ []; mine = v.mine ++ e ∷ [] }
 
 module _ {K E C : Type 0} where
   -- a pass between two calls
@@ -102,6 +79,7 @@ module _ {K E C : Type 0} where
   abbrev pub with_note : Held K E C → ℕ → E → Held K E C
   with_note t moment entry = let e : Made E = made t.pass.number moment entry in record t { pass = record t.pass { seen = t.pass.seen ++ e ∷ []; mine = t.pass.mine ++ e ∷ [] } }
 
+  -- a turn with another value in hand
   abbrev pub with_value : Held K E C → K → Held K E C
   with_value t value = record t { value = value }
 
@@ -110,6 +88,7 @@ module _ {E C : Type 0} where
   abbrev pub FitsNumbers : C → List (Made E) → View E C → Type 0
   FitsNumbers c history v = 0 < v.step → (v.conf ≡ Some c) × HasJustMine v history × HasJustMine v v.seen
 
+  -- a view fits the history: what it has seen and was told begins the history, and it has just its own entries there
   abbrev pub Fits : C → List (Made E) → View E C → Type 0
   Fits c history v = StartsWith history v.seen × StartsWith history v.told × FitsNumbers c history v
 
@@ -122,8 +101,8 @@ module _ {E C : Type 0} where
   OnlyHolder history owner holder views = (id : ℕ) (v : View E C) → get_elem? views id ≡ some v → v.holds ≡ true → (owner ≡ 1) × (id ≡ holder) × (v.seen ≡ history)
 
   -- no number is owned by two views
-  abbrev pub AreApart : List (View E C) → Type 0
-  AreApart views = (i j : ℕ) (v w : View E C) → get_elem? views i ≡ some v → get_elem? views j ≡ some w → i ≢ j → 0 < v.step → 0 < w.step → (k l : ℕ) → owns v k ≢ owns w l
+  abbrev pub HaveOwnNumbers : List (View E C) → Type 0
+  HaveOwnNumbers views = (i j : ℕ) (v w : View E C) → get_elem? views i ≡ some v → get_elem? views j ≡ some w → i ≢ j → 0 < v.step → 0 < w.step → (k l : ℕ) → owns v k ≢ owns w l
 
 module _ {K E C : Type 0} (stands : K → List (Made E) → Type 0) (pending : K → Bool) (conf : K → C) where
   -- the value stands for the history and has the configuration; where the owner word is 0, no intent is pending
@@ -148,7 +127,7 @@ module _ {K E C : Type 0} (stands : K → List (Made E) → Type 0) (pending : K
     pub home : slice_index s.words 0 ≢ 1 → (value : K) × (get_elem? s.homes 0 ≡ some (some (Some value))) × IsFit c history (slice_index s.words 0) value
     pub only : OnlyHolder history (slice_index s.words 0) holder s.views
     pub fits : AllFit c history s.views
-    pub apart : AreApart s.views
+    pub apart : HaveOwnNumbers s.views
 
   -- what a lock is left with: the value stands for a history, which is all that the pass has seen and after that others' entries, and has of its number just its own;
   -- where the pass is the only one, there are no others
@@ -159,43 +138,6 @@ module _ {K E C : Type 0} (stands : K → List (Made E) → Type 0) (pending : K
   abbrev pub MayBeLeftHeld : Known E C → Type 0
   MayBeLeftHeld p = (c : C) × (s : State (Option K) (View E C)) × (id : ℕ) × (v : View E C) × HoldsHistory c s × (slice_index s.words 0 ≡ 1) × (get_elem? s.views id ≡ some v) × (known p.lock v ≡ p) × (v.holds ≡ false)
 
-  -- what the swap that tries to take the lock tells where it did
-  abbrev pub Took : Me (Option K) (View E C) → ℕ → Me (Option K) (View E C) → Type 0
-  Took m found n =
-      (value : K) × (n.1 ≡ (0, Some value) ∷ m.1) × (n.0 ≡ record m.0 { seen = n.0.seen; holds = true; word = found }) × GrewByOthers m.0.number n.0.seen m.0.seen × HasJustMine n.0 n.0.seen
-      × (n.0.conf ≡ Some (conf value)) × stands value n.0.seen × (found ≢ 2 → pending value ≡ false) × (m.0.number ≡ 0 → m.0.step ≡ 1 → (found ≡ m.0.word) × (n.0.seen ≡ m.0.seen))
-
-  abbrev pub Taken : Step (Option K) → Me (Option K) (View E C) → ℕ → Me (Option K) (View E C) → Type 0
-  Taken st m found n = (found ≡ 1 → n ≡ m) × (found ≢ 1 → Took m found n)
-
-  -- the seat holds the lock, and its value is in hand
-  abbrev pub HasTaken : Me (Option K) (View E C) → K → Bool → Me (Option K) (View E C) → Type 0
-  HasTaken m value dead n =
-      (n.1 ≡ (0, None) ∷ []) × (n.0 ≡ record m.0 { seen = n.0.seen; holds = true; word = n.0.word }) × GrewByOthers m.0.number n.0.seen m.0.seen × HasJustMine n.0 n.0.seen
-      × (n.0.conf ≡ Some (conf value)) × stands value n.0.seen × (dead ≡ (n.0.word == 2)) × (n.0.word ≢ 2 → pending value ≡ false) × (m.0.number ≡ 0 → m.0.step ≡ 1 → (n.0.word ≡ m.0.word) × (n.0.seen ≡ m.0.seen))
-
-module _ {K E C : Type 0} where
-  -- the history so far was seen
-  abbrev pub Looked : Step (Option K) → Me (Option K) (View E C) → ℕ → Me (Option K) (View E C) → Type 0
-  Looked st m found n =
-      (n.1 ≡ m.1) × (n.0 ≡ record m.0 { seen = n.0.seen; told = [] }) × GrewByOthers m.0.number n.0.seen m.0.seen × StartsWith n.0.seen m.0.told × HasJustMine n.0 n.0.seen
-
-  -- the entry is the last of what was seen, and of the seat's own
-  abbrev pub Noted : ℕ → ℕ → Option E → Step (Option K) → Me (Option K) (View E C) → ℕ → Me (Option K) (View E C) → Type 0
-  Noted number moment entry st m found n = (e : E) → entry ≡ Some e → n ≡ (with_entry m.0 (made number moment e), m.1)
-
-  -- the slot went home
-  abbrev pub Left : Step (Option K) → Me (Option K) (View E C) → ℕ → Me (Option K) (View E C) → Type 0
-  Left st m found n = n ≡ (record m.0 { holds = false; word = st.first }, rest m.1)
-
-  -- a seat after a note
-  abbrev pub noted : Me (Option K) (View E C) → ℕ → E → Me (Option K) (View E C)
-  noted m moment entry = (with_entry m.0 (made m.0.number moment entry), m.1)
-
 -- a pass that left the owner word so
 abbrev pub left_at : {E C : Type 0} → ℕ → Known E C → Known E C
 left_at word p = record p { word = word }
-
--- the value may be left with this owner word
-abbrev pub IsEnding : {K E C : Type 0} → (K → List (Made E) → Type 0) → (K → Bool) → (K → C) → View E C → ℕ → K → Type 0
-IsEnding stands pending conf v owner value = stands value v.seen × (v.conf ≡ Some (conf value)) × (owner < 3) × (owner ≢ 1) × (owner ≡ 0 → pending value ≡ false)

@@ -3,7 +3,8 @@ ghost use Rattle.std.specs.Prelude.{◌≡◌, ◌≢◌, ◌==◌, ◌+◌, ◌
 ghost use Rattle.std.specs.Slots.{slots_items, slots_len, IsFull};
 ghost use mathlib.Core.Option.{some};
 ghost use lib.ListN.{get_elem?};
-ghost use Rattle.uw_lock.specs.LockRule.{StartsWith, GrewByOthers, HasOwn, owned, IsAtRest, HasTaken, IsWhole, MayBeLeftHeld, IsOnly};
+ghost use Rattle.uw_lock.specs.LockRule.{StartsWith, GrewByOthers, HasOwn, owned, IsAtRest, IsWhole, MayBeLeftHeld, IsOnly};
+ghost use Rattle.uw_lock.specs.LockSteps.{HasTaken};
 
 use crate::kept::Kept;
 use crate::pass::Pass;

@@ -1,6 +1,7 @@
 // The rule of the lock's table, and what each kind of step tells the seat that makes it.
 ghost use Rattle.std.specs.Prelude.{ℕ, Option, None};
-ghost use Rattle.uw_lock.specs.LockRule.{HoldsHistory, first_view, Taken, Looked, Noted, Left, divided, granted, message_of, informed, spent_view};
+ghost use Rattle.uw_lock.specs.LockRule.{HoldsHistory};
+ghost use Rattle.uw_lock.specs.LockSteps.{first_view, Taken, Looked, Noted, Left, divided, granted, message_of, informed, spent_view};
 
 use crate::entries::View;
 use crate::kept::Kept;

@@ -1,7 +1,8 @@
 // A turn: the lock, held.
 ghost use Rattle.std.specs.Prelude.{◌≡◌, false, Some};
 ghost use Rattle.std.specs.Borrow.{Lends, sem};
-ghost use Rattle.uw_lock.specs.LockRule.{IsHolding, IsEnding, HasOwn, with_note, noted, left_at, known};
+ghost use Rattle.uw_lock.specs.LockRule.{IsHolding, HasOwn, with_note, left_at, known};
+ghost use Rattle.uw_lock.specs.LockSteps.{IsEnding, noted};
 
 use crate::kept::Kept;
 use crate::lock::RobustLock;

@@ -1,6 +1,7 @@
 use Rattle.std.proofs.Common.{◌≡◌, List, [], ◌∷◌, ◌++◌, Option, Some, sym, ap, refl, subst, ◌∙◌}
 use Rattle.atomic_table.specs.Table.{opening}
-use Rattle.uw_lock.specs.LockRule.{HoldsHistory, first_view}
+use Rattle.uw_lock.specs.LockRule.{HoldsHistory}
+use Rattle.uw_lock.specs.LockSteps.{first_view}
 use Rattle.uw_lock.proofs.Steps.{opens}
 use Rattle.uw_lock.proofs.lock.RobustLock.new.Goals as goal
 
