@@ -4,6 +4,7 @@
 mod bytes;
 mod lists;
 pub mod numbers;
+pub mod texts;
 pub mod variables;
 
 pub use bytes::{Bytes, Memory};

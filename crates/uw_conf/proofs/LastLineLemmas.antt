@@ -1,5 +1,5 @@
 -- An option that holds one number or text counts by its last line.
-use Rattle.std.proofs.Common.{◌≡◌, ◌≢◌, ℕ, ◌+◌, ◌==◌, Bool, true, false, ◌||◌, ◌&&◌, cond, nat_le, nat_lt, List, [], ◌∷◌, ◌++◌, length, map, filter, codes, unwrap_or, Option, Some, None, Result, Ok, Err, IfOk, ◌⊎◌, inl, inr, refl, sym, ap, ◌∙◌}
+use Rattle.std.proofs.Common.{◌≡◌, ℕ, ◌+◌, ◌==◌, Bool, true, false, ◌&&◌, cond, nat_le, nat_lt, List, [], ◌∷◌, ◌++◌, length, codes, unwrap_or, Option, Some, None, Result, Ok, Err, IfOk, refl, sym, ap, ◌∙◌}
 use Rattle.std.specs.List.{last_or}
 use Rattle.std.specs.Str.{bytes_eq}
 use Rattle.std.specs.Str.Lines.{lines}
@@ -12,7 +12,8 @@ use Rattle.uw_conf.specs.declared.conf.ConfKind.{ConfKind}
 use Rattle.uw_conf.specs.declared.conf.ConfKind.TheVariants as kinds
 use Rattle.uw_conf.specs.declared.options.OptionKind.{OptionKind}
 use Rattle.uw_conf.specs.declared.options.OptionKind.TheVariants as of
-use Rattle.uw_conf.specs.Lines.{Line, nothing, section, option, broken, line_of, trimmed}
+use Rattle.uw_conf.specs.Lines.{Line, nothing, section, option, broken, line_of}
+use Rattle.uw_base.specs.Texts.{trimmed}
 use Rattle.uw_conf.specs.Caches.{number_in, with_cache}
 use Rattle.uw_conf.specs.Configuration.{ReadSoFar, blank_reading, option_kind, set_number, set_caches, set_option, with_option, with_conf, with_setting, with_broken_line, with_line, read_line, at_line, read_lines, conf_read, most_text_bytes, configuration_of}
 use Rattle.uw_conf.specs.Laws.{Setting, is_inside_behind, is_kind, last_value, number_or, setting_in, settings_from, settings_of, values_of}

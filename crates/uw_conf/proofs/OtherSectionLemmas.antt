@@ -1,13 +1,14 @@
 -- Lines of other sections change nothing, but for lines that are no text.
-use Rattle.std.proofs.Common.{◌≡◌, ℕ, ◌+◌, ◌==◌, Bool, true, false, cond, List, [], ◌∷◌, ◌++◌, length, Option, Some, None, Result, Ok, Err, IfOk, refl, sym, ap, ◌∙◌, arith, add_assoc}
+use Rattle.std.proofs.Common.{◌≡◌, ℕ, ◌+◌, ◌==◌, false, List, [], ◌∷◌, ◌++◌, length, Some, Result, Ok, Err, refl, sym, ap, ◌∙◌, arith}
 use Rattle.std.specs.List.{AllByRecursion}
 use Rattle.std.specs.Str.Lossy.{utf8_valid_len}
 use Rattle.std.proofs.lemmas.Bool.{cond-true, eq-eqb}
 use Rattle.uw_conf.specs.declared.conf.ConfFault.{ConfFault}
 use Rattle.uw_conf.specs.declared.conf.ConfKind.{ConfKind}
 use Rattle.uw_conf.specs.declared.conf.ConfKind.TheVariants as kinds
-use Rattle.uw_conf.specs.Lines.{Line, nothing, section, option, broken, line_of, trimmed}
-use Rattle.uw_conf.specs.Configuration.{ReadSoFar, with_line, read_line, at_line, read_lines, conf_read}
+use Rattle.uw_conf.specs.Lines.{Line, nothing, section, option, broken, line_of}
+use Rattle.uw_base.specs.Texts.{trimmed}
+use Rattle.uw_conf.specs.Configuration.{ReadSoFar, with_line, read_line, at_line, read_lines}
 use Rattle.uw_conf.specs.Laws.{IsPlainLine, is_section, reading_after, unless_refused}
 
 -- a line of another section is passed over

@@ -6,7 +6,8 @@ use Rattle.std.specs.Str.Lossy.{utf8_valid_len}
 use Rattle.uw_conf.specs.declared.conf.Conf.{Conf}
 use Rattle.uw_conf.specs.declared.conf.ConfFault.{ConfFault}
 use Rattle.uw_conf.specs.declared.conf.ConfKind.{ConfKind}
-use Rattle.uw_conf.specs.Lines.{Line, nothing, section, option, broken, line_of, trimmed}
+use Rattle.uw_conf.specs.Lines.{Line, nothing, section, option, broken, line_of}
+use Rattle.uw_base.specs.Texts.{trimmed}
 use Rattle.uw_conf.specs.Configuration.{ReadSoFar, blank_conf, with_option, with_conf, with_setting, with_broken_line, with_line, read_line, at_line, read_lines, conf_read, most_text_bytes, configuration_of}
 
 -- a line that is taken leads to the lines behind it

@@ -11,7 +11,8 @@ use Rattle.uw_conf.specs.declared.conf.ConfKind.{ConfKind}
 use Rattle.uw_conf.specs.declared.conf.ConfKind.TheVariants as kinds
 use Rattle.uw_conf.specs.declared.options.OptionKind.{OptionKind}
 use Rattle.uw_conf.specs.declared.options.OptionKind.TheVariants as of
-use Rattle.uw_conf.specs.Lines.{Line, nothing, section, option, broken, line_of, trimmed}
+use Rattle.uw_conf.specs.Lines.{Line, nothing, section, option, broken, line_of}
+use Rattle.uw_base.specs.Texts.{trimmed}
 use Rattle.uw_conf.specs.Caches.{number_in, with_cache}
 
 -- where a reading stands: before any section (None), in the section `uwsgi`, or in another; and what it has read

@@ -5,10 +5,10 @@ use Rattle.std.specs.Str.{bytes_eq}
 use Rattle.std.specs.Str.Lines.{lines}
 use Rattle.std.specs.Str.Lossy.{utf8_valid_len}
 use Rattle.uw_base.specs.Numbers.{decimal_of}
-use Rattle.uw_conf.specs.declared.conf.Conf.{Conf}
 use Rattle.uw_conf.specs.declared.conf.ConfFault.{ConfFault}
 use Rattle.uw_conf.specs.declared.conf.ConfKind.{ConfKind}
-use Rattle.uw_conf.specs.Lines.{Line, nothing, section, option, broken, line_of, trimmed}
+use Rattle.uw_conf.specs.Lines.{Line, nothing, section, option, broken, line_of}
+use Rattle.uw_base.specs.Texts.{trimmed}
 use Rattle.uw_conf.specs.declared.options.OptionKind.{OptionKind}
 use Rattle.uw_conf.specs.declared.options.OptionKind.TheVariants as of
 use Rattle.uw_conf.specs.Configuration.{ReadSoFar, blank_reading, option_kind, read_line}

@@ -1,19 +1,7 @@
 -- The lines of a configuration (own rule).
-use Rattle.std.specs.Prelude.{ℕ, ◌==◌, Bool, false, ◌||◌, ◌&&◌, if◌then◌else◌, List, [], ◌∷◌, length, reverse, take, ◌-◌}
+use Rattle.std.specs.Prelude.{ℕ, ◌==◌, Bool, false, ◌||◌, ◌&&◌, if◌then◌else◌, List, [], ◌∷◌, length, take, ◌-◌}
 use Rattle.std.specs.List.{before_first, after_first, list_any}
-
--- a space or a tab
-abbrev pub is_blank : ℕ → Bool
-is_blank byte = byte == 32 || byte == 9
-
--- the text from its first byte on that is no blank
-abbrev pub without_blanks : List ℕ → List ℕ
-without_blanks [] = []
-without_blanks (byte ∷ text) = if is_blank byte then without_blanks text else byte ∷ text
-
--- the text without the blanks at its ends
-abbrev pub trimmed : List ℕ → List ℕ
-trimmed text = reverse (without_blanks (reverse (without_blanks text)))
+use Rattle.uw_base.specs.Texts.{trimmed}
 
 -- what a line is: nothing, the beginning of a section, an option with its value, or none of these
 pub data Line : Type 0 where

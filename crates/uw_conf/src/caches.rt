@@ -14,8 +14,8 @@ use crate::ConfKind;
 use crate::draft::{CacheDraft, draft_of};
 use crate::refusal::Refusal;
 use crate::sizes::{region_bytes, region_words};
-use crate::texts::is;
 use std::alloc::Global;
+use uw_base::texts::is;
 use uw_base::{Bytes, Memory};
 use uw_model::{CacheConf, CacheConfList};
 

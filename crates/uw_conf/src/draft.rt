@@ -5,8 +5,8 @@ ghost use Rattle.std.specs.Str.{bytes_eq};
 ghost use Rattle.uw_conf.specs.Caches.{blank_draft, spoiled, number_in, flag_of, put, with_key, with_pair, draft_of};
 ghost use Rattle.uw_conf.specs.ReadingSteps.{draft_seen};
 
-use crate::texts::{cut, is};
 use crate::values::{flag_of, number_in};
+use uw_base::texts::{cut, is};
 
 const MOST_ITEMS: u64 = 1_048_576;
 

@@ -10,7 +10,6 @@ mod options;
 mod reading;
 mod refusal;
 mod sizes;
-mod texts;
 mod values;
 
 pub use conf::{Conf, ConfError, ConfFault, ConfKind};

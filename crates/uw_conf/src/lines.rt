@@ -5,7 +5,7 @@ ghost use Rattle.std.specs.Str.Lossy.{utf8_valid_len};
 ghost use Rattle.uw_conf.specs.Lines.{line_of, option_line, parted};
 ghost use Rattle.uw_conf.specs.ReadingSteps.{line_seen};
 
-use crate::texts::{cut, trim_blanks};
+use uw_base::texts::{cut, trim_blanks};
 
 /// What a line is.
 #[derive(Clone, Copy, Debug, PartialEq, Eq)]

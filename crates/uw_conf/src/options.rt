@@ -8,11 +8,11 @@ ghost use Rattle.uw_conf.specs.declared.conf.ConfKind.TheVariants as kinds;
 
 use crate::caches::with_cache;
 use crate::refusal::Refusal;
-use crate::texts::{is, is_any};
 use crate::values::number_in;
 use crate::{Conf, ConfKind};
 use std::alloc::Global;
 use uw_base::Bytes;
+use uw_base::texts::{is, is_any};
 
 /// What an option of the section says.
 #[derive(Clone, Copy, Debug, PartialEq, Eq)]

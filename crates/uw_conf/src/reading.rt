@@ -10,10 +10,10 @@ ghost use Rattle.uw_conf.specs.Sound.{AreCaches};
 use crate::lines::{LineKind, is_utf8, line_of, next_line};
 use crate::options::with_option;
 use crate::refusal::Refusal;
-use crate::texts::{is, trim_blanks};
 use crate::{Conf, ConfError, ConfFault, ConfKind};
 use std::alloc::Global;
 use uw_base::Bytes;
+use uw_base::texts::{is, trim_blanks};
 use uw_model::CacheConfList;
 
 /// The most bytes of a text.

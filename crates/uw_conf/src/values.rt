@@ -2,8 +2,8 @@
 ghost use Rattle.std.specs.Prelude.{◌≡◌, ◌≤◌, IfSome};
 ghost use Rattle.uw_conf.specs.Caches.{number_in, flag_of};
 
-use crate::texts::is;
 use uw_base::read_decimal;
+use uw_base::texts::is;
 
 /// The number of a text, from `low` to `high`.
 pub fn number_in(low: u64, high: u64, text: &[u8]) -> Option<u64>

@@ -3,8 +3,8 @@ ghost use Rattle.std.specs.Prelude.{◌≡◌, ◌↔◌, IsTrue, true};
 ghost use Rattle.uw_outside.specs.Counts.{next_count, IsListed};
 ghost use Rattle.uw_outside.specs.Faults.{HasCause};
 
-// Counts a call, and says whether it is listed. A call past the last number of the type is not.
-pub(crate) fn count_call(calls: &mut u64, listed: &[u64]) -> bool
+/// Counts a call, and says whether it is listed. A call past the last number of the type is not.
+pub fn count_call(calls: &mut u64, listed: &[u64]) -> bool
     ensures counted { calls.new ≡ next_count calls.old }
     ensures listed { IsTrue result ↔ IsListed listed.now calls.old }
 {
@@ -17,7 +17,8 @@ pub(crate) fn count_call(calls: &mut u64, listed: &[u64]) -> bool
     }
 }
 
-pub(crate) fn count_fault(faults: &mut u64)
+/// Counts a fault.
+pub fn count_fault(faults: &mut u64)
     ensures counted { faults.new ≡ next_count faults.old }
     ensures cause { HasCause faults.old faults.new true }
 {

@@ -3,7 +3,7 @@
 #![tactic(auto)]
 
 pub mod clock;
-mod counts;
+pub mod counts;
 pub mod fuse;
 pub mod life;
 pub mod real;

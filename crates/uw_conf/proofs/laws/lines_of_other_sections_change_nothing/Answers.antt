@@ -1,4 +1,4 @@
-use Rattle.std.proofs.Common.{ap, ◌∙◌, sym, Result, append_assoc, ◌++◌}
+use Rattle.std.proofs.Common.{ap, Result, append_assoc}
 use Rattle.uw_conf.specs.declared.conf.ConfFault.{ConfFault}
 use Rattle.uw_conf.specs.Configuration.{ReadSoFar, blank_reading, conf_read}
 use Rattle.uw_conf.proofs.OtherSectionLemmas.{replaced}

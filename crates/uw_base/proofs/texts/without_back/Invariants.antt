@@ -1,6 +1,6 @@
 use Rattle.std.proofs.Common.{◌≡◌, take, reverse}
-use Rattle.uw_conf.specs.Lines.{without_blanks}
-use Rattle.uw_conf.proofs.texts.without_back.Given as goal
+use Rattle.uw_base.specs.Texts.{without_blanks}
+use Rattle.uw_base.proofs.texts.without_back.Given as goal
 
 -- so far there were only blanks
 abbrev pub invariant-loop-place : goal.invariant-loop-place

@@ -1,9 +1,9 @@
-// Parts of a text.
+// Parts of a text: cuts, and blanks at its ends.
 ghost use Rattle.std.specs.Prelude.{◌≡◌, ◌<◌, ◌==◌, ◌∷◌, [], length, reverse, is_some, IfSome, IfNone, position};
 ghost use Rattle.std.specs.List.{before_first, after_first, list_any, slice_split};
 ghost use Rattle.std.specs.Option.{option_map_or};
 ghost use Rattle.std.specs.Str.{bytes_eq};
-ghost use Rattle.uw_conf.specs.Lines.{is_blank, without_blanks, trimmed};
+ghost use Rattle.uw_base.specs.Texts.{is_blank, without_blanks, trimmed};
 
 /// Whether a text is the word.
 pub fn is(text: &[u8], word: &[u8]) -> bool
@@ -54,8 +54,8 @@ fn is_blank(byte: u8) -> bool
     byte == b' ' || byte == b'\t'
 }
 
-// The text from its first byte on that is no blank.
-fn without_front(text: &[u8]) -> &[u8]
+/// The text from its first byte on that is no blank.
+pub fn without_front(text: &[u8]) -> &[u8]
     ensures { result.now ≡ without_blanks text.now }
 {
     for (place, byte) in text.iter().enumerate() {

@@ -1,7 +1,7 @@
 use Rattle.std.proofs.Common.{◌==◌}
 use Rattle.std.proofs.lemmas.List.{take_rest}
-use Rattle.uw_conf.proofs.TextLemmas.{list_any-found, list_any-lacks, slice_split-found, slice_split-lacks}
-use Rattle.uw_conf.proofs.texts.cut.Goals as goal
+use Rattle.uw_base.proofs.TextLemmas.{list_any-found, list_any-lacks, slice_split-found, slice_split-lacks}
+use Rattle.uw_base.proofs.texts.cut.Goals as goal
 
 pub returns-in-Some-clause-found : goal.returns-in-Some-clause-found
 returns-in-Some-clause-found c = list_any-found (λ byte. byte == c.args.at) c.args.text.now c.in-Some.place c.in-Some.ensures
