@@ -1,10 +1,10 @@
 // Parts, filled one behind the other.
-ghost use Rattle.std.specs.Prelude.{◌≡◌, ◌+◌, ◌-◌, ◌<◌, ◌≤◌, ◌++◌, List, ℕ, Option, [], length, slice_index_or, codes, decimal, All, IfOk, MatchOption};
+ghost use Rattle.std.specs.Prelude.{◌≡◌, ◌+◌, ◌-◌, ◌<◌, ◌≤◌, ◌++◌, List, ℕ, Option, [], length, slice_index_or, codes, decimal, All, IfOk, MatchOption, OnErr, OnOk};
 ghost use Rattle.std.specs.Bool.{OnFalse, OnTrue};
 ghost use Rattle.std.specs.List.{flat_map};
 ghost use Rattle.std.specs.Str.{bytes_eq};
 ghost use Rattle.base64.specs.Engines.{standard};
-ghost use Rattle.base64.specs.GeneralPurpose.{encode_of};
+ghost use Rattle.base64.specs.GeneralPurpose.{encode_of, encoded_size_of};
 ghost use Rattle.uw_base.specs.Variables.{value_of};
 ghost use Rattle.uw_subst.specs.Answers.{PutsAll, PutsWithin};
 ghost use Rattle.uw_subst.specs.Dates.{date_at};
@@ -13,9 +13,11 @@ ghost use Rattle.uw_subst.specs.Queries.{decoded, query_value};
 
 use crate::dates::date_after;
 use crate::parts::{Part, Span};
+use base64::encoded_len;
 use base64::engine::general_purpose::STANDARD;
 use form_urlencoded::{decode, raw_pairs};
 use std::alloc::Global;
+use std::mem;
 use uw_base::{Bytes, BytesList, Memory, Vars, put_decimal};
 
 /// The most bytes of a filled text.
@@ -65,7 +67,22 @@ fn put_date(
     }
 }
 
+// Puts a value in base64 at the end of bytes; the text has this size.
+fn encode_behind(bytes: &mut Vec<u8>, value: &[u8], size: usize) -> Result<(), Memory>
+    requires { size ≡ encoded_size_of standard (length value.now) }
+    ensures ok { OnOk result (bytes.new.items ≡ bytes.old.items ++ encode_of standard value.now) }
+    ensures err { OnErr result (bytes.new.items ≡ bytes.old.items) }
+{
+    let start = bytes.len();
+    let end = start.checked_add(size).ok_or(Memory)?;
+    bytes.resize(end, 0)?;
+    // The slice has just the size, so this cannot fail.
+    let _ = STANDARD.encode_slice(value, &mut bytes.as_mut_slice()[start..]);
+    Ok(())
+}
+
 // The same for a value in base64.
+#[tactic(auto, using(crate::proofs::FillLemmas::encoded_length))]
 fn put_encoded(
     alloc: Global,
     out: &mut Bytes,
@@ -74,8 +91,17 @@ fn put_encoded(
 ) -> Result<Option<usize>, Memory>
     ensures { PutsWithin room out.old out.new (encode_of standard value.now) result }
 {
-    let text = STANDARD.encode(alloc, value)?;
-    put(out, room, text.as_bytes())
+    let Some(size) = encoded_len(value.len(), true) else {
+        return Ok(None);
+    };
+    let Some(left) = room.checked_sub(size) else {
+        return Ok(None);
+    };
+    let mut bytes = mem::replace(out, Bytes::new(alloc)).into_vec();
+    let encoded = encode_behind(&mut bytes, value, size);
+    *out = Bytes::from_vec(bytes);
+    encoded?;
+    Ok(Some(left))
 }
 
 // The same for an encoded value of a query string.
