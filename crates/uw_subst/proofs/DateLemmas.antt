@@ -88,7 +88,7 @@ clock_back : (n : ℕ) → n / 86400 * 86400 + n % 86400 / 3600 * 3600 + n % 360
 clock_back n = omega arith
 
 -- the date of a moment
-date_of_moment : (n : ℕ) → n < 253402300800 → (date : HttpDate) × (unix_secs date ≡ n) × (date.parts ≡ date_parts n)
+pub date_of_moment : (n : ℕ) → n < 253402300800 → (date : HttpDate) × (unix_secs date ≡ n) × (date.parts ≡ date_parts n)
 date_of_moment n before =
     let h = IsDay-day_after (n / 86400) in
     let year = four_digits (n / 86400) (day_after (n / 86400)) h (omega arith) in

@@ -1,12 +1,12 @@
 -- The pieces of a text, one behind the other.
-use Rattle.std.proofs.Common.{◌≡◌, ℕ, zero, suc, ◌+◌, ◌-◌, ◌<◌, ◌≤◌, Bool, true, false, ◌&&◌, if◌then◌else◌, List, [], ◌∷◌, ◌++◌, length, get_or, take, drop, map, refl, sym, ap, ◌∙◌, arith, nat_le, ◌==◌, eqb-true}
+use Rattle.std.proofs.Common.{◌≡◌, ℕ, zero, suc, ◌+◌, ◌-◌, ◌<◌, ◌≤◌, Bool, true, false, ◌&&◌, if◌then◌else◌, List, [], ◌∷◌, ◌++◌, length, get_or, take, drop, map, refl, sym, ap, ◌∙◌, arith, nat_le, ◌==◌, eqb-true, subst, Option, Some}
 use Rattle.std.proofs.lemmas.Bool.Decides.{nat_tests}
 use Rattle.std.proofs.lemmas.List.{append_assoc, drop-drop, drop_more, get_or-drop, length-drop, length-take-le, take_more}
 use Rattle.std.proofs.lemmas.List.Sums.{passes_at_first, split_at_first}
 use Rattle.std.specs.List.{before_first, flat_map, list_any, position_or_len}
 use Rattle.uw_base.specs.declared.variables.Pair.{Pair}
 use Rattle.uw_subst.proofs.Positions.{IsFirst, list_any_place}
-use Rattle.uw_subst.specs.Templates.{Piece, plain, capture, form, unclosed, filled, first_bad, has_form, first_piece, form_piece, is_filled_piece, piece_len, piece_text, piece_written, pieces_behind, pieces_of}
+use Rattle.uw_subst.specs.Templates.{Piece, plain, capture, form, unclosed, fault_of, filled, first_bad, has_form, first_piece, form_piece, is_bad_piece, is_filled_piece, piece_len, piece_text, piece_written, pieces_behind, pieces_of}
 
 -- bytes that belong to the piece before are passed over
 pieces_skip : (taken : ℕ) (text : List ℕ) → pieces_behind taken text ≡ pieces_of (drop taken text)
@@ -181,3 +181,60 @@ unclosed_piece text h = ap (λ (b : Bool). if b then form (before_first (λ byte
 pub closed_piece : (text : List ℕ) (i : ℕ) → IsFirst (λ byte. byte == 125) text i → form_piece text ≡ form (take i text)
 closed_piece text i h =
     ap (λ (b : Bool). if b then form (before_first (λ byte. byte == 125) text) else unclosed) h.some ∙ ap (λ (n : ℕ). form (take n text)) h.place
+
+-- a bad piece begins with `${`
+bad_case : (is_capture is_form : Bool) (first next : ℕ) (rest : List ℕ) → (first == 36 && next == 123) ≡ is_form → is_bad_piece (if is_capture then capture (next - 48) else (if is_form then form_piece rest else plain first)) ≡ true → (first ≡ 36) × (next ≡ 123)
+bad_case true is_form first next rest h bad = absurd (cc)
+bad_case false true first next rest h bad = (grind (arith, nat_tests), grind (arith, nat_tests))
+bad_case false false first next rest h bad = absurd (cc)
+
+bad_first : (first : ℕ) (rest : List ℕ) → is_bad_piece (first_piece first rest) ≡ true → (first ≡ 36) × (get_or rest 0 0 ≡ 123)
+bad_first first [] bad = absurd (cc)
+bad_first first (next ∷ rest) bad = bad_case (first == 36 && nat_le 49 next && nat_le next 57) (first == 36 && next == 123) first next rest refl bad
+
+-- a `${` stands so many bytes behind a place
+record IsFormBehind (text : List ℕ) (base at : ℕ) : Type 0 where
+  behind : ℕ
+  place : at ≡ base + behind
+  dollar : get_or text behind 0 ≡ 36
+  brace : get_or text (behind + 1) 0 ≡ 123
+
+form_further : (text : List ℕ) (n base at : ℕ) → IsFormBehind (drop n text) (base + n) at → IsFormBehind text base at
+form_further text n base at h =
+    let next : n + (h.behind + 1) ≡ n + h.behind + 1 = omega arith in
+    record {
+      behind = n + h.behind;
+      place = omega (arith, h.place);
+      dollar = sym (get_or-drop n text h.behind 0) ∙ h.dollar;
+      brace = ap (λ (k : ℕ). get_or text k 0) (sym next) ∙ sym (get_or-drop n text (h.behind + 1) 0) ∙ h.brace;
+    }
+
+same_place : (a b : ℕ) → Some a ≡ Some b → a ≡ b
+same_place a b h = cc
+
+bad_here : (bad : Bool) (first base at : ℕ) (rest : List ℕ) (later : Option ℕ) → is_bad_piece (first_piece first rest) ≡ bad → (if bad then Some base else later) ≡ Some at
+    → (later ≡ Some at → IsFormBehind (first ∷ rest) base at) → IsFormBehind (first ∷ rest) base at
+bad_here true first base at rest later bad found further =
+    let start = bad_first first rest bad in
+    let place = same_place base at found in
+    record { behind = 0; place = omega arith; dollar = start.0; brace = start.1 }
+bad_here false first base at rest later bad found further = further found
+
+fault_behind : (taken : ℕ) (text : List ℕ) (base at : ℕ) → first_bad base (pieces_behind taken text) ≡ Some at → IsFormBehind (drop taken text) base at
+unfolding pieces_behind
+fault_behind zero [] base at h = absurd (cc)
+fault_behind (suc taken) [] base at h = absurd (cc)
+fault_behind zero (first ∷ rest) base at h =
+    let piece = first_piece first rest in
+    let some = piece_len_some piece in
+    bad_here (is_bad_piece piece) first base at rest (first_bad (base + piece_len piece) (pieces_behind (piece_len piece - 1) rest)) refl h
+    (λ found. form_further (first ∷ rest) (piece_len piece) base at
+    (subst (λ (left : List ℕ). IsFormBehind left (base + piece_len piece) at) (sym (drop_first (piece_len piece) first rest some)) (fault_behind (piece_len piece - 1) rest (base + piece_len piece) at found)))
+fault_behind (suc taken) (first ∷ rest) base at h = fault_behind taken rest base at h
+
+pub fault_is_form : (text : List ℕ) (at : ℕ) → fault_of text ≡ Some at → (get_or text at 0 ≡ 36) × (get_or text (at + 1) 0 ≡ 123)
+unfolding fault_of
+fault_is_form text at h =
+    let found = fault_behind 0 text 0 at h in
+    let place : found.behind ≡ at = omega (arith, found.place) in
+    (ap (λ (n : ℕ). get_or text n 0) (sym place) ∙ found.dollar, ap (λ (n : ℕ). get_or text (n + 1) 0) (sym place) ∙ found.brace)

@@ -33,6 +33,7 @@ pub struct Filling<'a> {
 }
 
 // Puts a text at the end, and answers the room that is left; none where the text is longer than the room.
+// The calls below do the same with what they make.
 fn put(out: &mut Bytes, room: usize, text: &[u8]) -> Result<Option<usize>, Memory>
     ensures { PutsWithin room out.old out.new text.now result }
 {
@@ -43,7 +44,7 @@ fn put(out: &mut Bytes, room: usize, text: &[u8]) -> Result<Option<usize>, Memor
     Ok(Some(left))
 }
 
-// The same for a number in decimal.
+// Puts a number in decimal.
 fn put_number(out: &mut Bytes, room: usize, number: u64) -> Result<Option<usize>, Memory>
     ensures { PutsWithin room out.old out.new (decimal number) result }
 {
@@ -52,7 +53,7 @@ fn put_number(out: &mut Bytes, room: usize, number: u64) -> Result<Option<usize>
     Ok(room.checked_sub(out.len() - before))
 }
 
-// The same for a date, so many seconds after the moment.
+// Puts the date so many seconds after a moment.
 fn put_date(
     out: &mut Bytes,
     room: usize,
@@ -67,7 +68,7 @@ fn put_date(
     }
 }
 
-// Puts a value in base64 at the end of bytes; the text has this size.
+// A value in base64 at the end of bytes; its text has this size.
 fn encode_behind(bytes: &mut Vec<u8>, value: &[u8], size: usize) -> Result<(), Memory>
     requires { size ≡ encoded_size_of standard (length value.now) }
     ensures ok { OnOk result (bytes.new.items ≡ bytes.old.items ++ encode_of standard value.now) }
@@ -81,7 +82,7 @@ fn encode_behind(bytes: &mut Vec<u8>, value: &[u8], size: usize) -> Result<(), M
     Ok(())
 }
 
-// The same for a value in base64.
+// Puts a value in base64.
 #[tactic(auto, using(crate::proofs::FillLemmas::encoded_length))]
 fn put_encoded(
     alloc: Global,
@@ -104,7 +105,7 @@ fn put_encoded(
     Ok(Some(left))
 }
 
-// The same for an encoded value of a query string.
+// Puts a value of a query string, decoded.
 fn put_decoded(
     alloc: Global,
     out: &mut Bytes,
@@ -143,7 +144,7 @@ fn encoded_value<'a>(
     Ok(None)
 }
 
-// The same for the value of a name in a query string.
+// Puts the value of a name in a query string, decoded.
 fn put_query(
     alloc: Global,
     out: &mut Bytes,

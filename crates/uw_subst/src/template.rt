@@ -57,7 +57,7 @@ impl Model for Template {
     ghost invariant = { λ template. AreParts template.text template.parts.items };
 }
 
-// The bytes at the front of a text, so many.
+// Leaves so many bytes at the front.
 fn cut_back(alloc: Global, out: &mut Bytes, len: usize)
     ensures { out.new ≡ take len out.old }
 {
