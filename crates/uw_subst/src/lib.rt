@@ -1,0 +1,15 @@
+//! Templates: texts with captures and forms, read once and filled from variables, captures and a moment.
+#![tactic(auto)]
+
+mod dates;
+mod filling;
+mod forms;
+pub mod laws;
+mod parts;
+mod reading;
+mod template;
+
+pub use template::{Filled, SubstFault, Template};
+
+#[cfg(test)]
+mod tests;
