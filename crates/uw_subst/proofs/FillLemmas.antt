@@ -7,7 +7,7 @@ use Rattle.base64.specs.Engines.{standard}
 use Rattle.base64.specs.GeneralPurpose.{encode_of, encoded_size_of, engine_symbols}
 use Rattle.base64.specs.Rfc4648.{encode_symbols, padding_len, unpadded_len}
 use Rattle.base64.proofs.RoundTrip.{length-encode_symbols}
-use Rattle.uw_subst.specs.Answers.{IsFront}
+use Rattle.uw_subst.specs.FillSteps.{IsFront}
 
 -- where a part is longer than the room, all parts are longer than the limit
 pub room_passed : {X : Type 0} (f : X → List ℕ) (xs : List X) (i : ℕ) (d : X) (room : ℕ) → i < length xs → room + length (flat_map f (take i xs)) ≡ 65536 → room < length (f (get_or xs i d)) → 65536 < length (flat_map f xs)

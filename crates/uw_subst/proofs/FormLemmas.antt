@@ -6,7 +6,8 @@ use Rattle.uw_base.specs.declared.variables.Pair.{Pair}
 use Rattle.std.specs.List.{after_first, before_first, list_any}
 use Rattle.uw_subst.proofs.Positions.{IsFirst}
 use Rattle.uw_subst.specs.Forms.{Form, bad, bracket_form, form_of, form_text, is_bad_form, named_form, variable, variable_form}
-use Rattle.uw_subst.specs.Parts.{IsFormPart, IsSpan, is_filled_part, part_form, part_text, span_bytes}
+use Rattle.uw_subst.specs.Parts.{IsSpan, is_filled_part, part_form, part_text, span_bytes}
+use Rattle.uw_subst.specs.PartSteps.{IsFormPart}
 use Rattle.uw_subst.specs.declared.parts.Span.{Span}
 use Rattle.uw_subst.specs.declared.parts.Part.{Part}
 use Rattle.uw_subst.specs.declared.parts.Part.TheVariants.{Constant, Capture, Variable, Query, Time, Date, Encoded}

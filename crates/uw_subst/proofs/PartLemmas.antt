@@ -6,7 +6,8 @@ use Rattle.std.proofs.lemmas.List.Elements.{All-push}
 use Rattle.std.specs.List.{flat_map, list_any}
 use Rattle.uw_base.specs.declared.variables.Pair.{Pair}
 use Rattle.uw_subst.specs.Templates.{Piece, plain, fault_of, filled, first_bad, has_form, is_bad_piece, is_filled_piece, piece_len, piece_text, pieces_of}
-use Rattle.uw_subst.specs.Parts.{AreParts, AreReadUpTo, IsNextPart, IsWithin, is_filled_part, part_text, span_bytes}
+use Rattle.uw_subst.specs.Parts.{AreParts, IsPartOf, is_filled_part, part_text, span_bytes}
+use Rattle.uw_subst.specs.PartSteps.{AreReadUpTo, IsNextPart}
 use Rattle.uw_subst.specs.declared.parts.Span.{Span}
 use Rattle.uw_subst.specs.declared.parts.Part.{Part}
 use Rattle.uw_subst.specs.declared.parts.Part.TheVariants.{Constant}
@@ -38,7 +39,7 @@ good_step false at x h = refl
 
 -- a piece that is no such byte is a part of its own
 pub filled_part : (text : List ℕ) (at end : ℕ) (part : Part) (piece : Piece) → pieces_of (drop at text) ≡ piece ∷ pieces_of (drop end text) → at + piece_len piece ≡ end → is_bad_piece piece ≡ false → is_filled_piece piece ≡ is_filled_part part
-    → ((vars : List Pair) (captures : List (List ℕ)) (moment : ℕ) → piece_text vars captures moment piece ≡ part_text text vars captures moment part) → IsWithin text part → at < end → end ≤ length text → IsNextPart text at part end
+    → ((vars : List Pair) (captures : List (List ℕ)) (moment : ℕ) → piece_text vars captures moment piece ≡ part_text text vars captures moment part) → IsPartOf text part → at < end → end ≤ length text → IsNextPart text at part end
 unfolding filled has_form
 filled_part text at end part piece pieces place good_piece filled_in same within later inside = record {
   same = λ vars captures moment.
@@ -88,7 +89,7 @@ read_more text parts at part end so_far next = record {
       ap (λ (b : Bool). b || has_form (drop end text)) (or_push parts part) ∙ or_assoc (list_any is_filled_part parts) (is_filled_part part) (has_form (drop end text))
       ∙ ap (λ (b : Bool). list_any is_filled_part parts || b) (sym next.forms) ∙ so_far.forms;
   good = sym next.good ∙ so_far.good;
-  within = All-push (IsWithin text) parts part so_far.within next.within;
+  within = All-push (IsPartOf text) parts part so_far.within next.within;
   inside = next.inside;
 }
 

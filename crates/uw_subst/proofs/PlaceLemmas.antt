@@ -4,7 +4,7 @@ use Rattle.std.proofs.lemmas.List.{drop-drop, length-drop, take_rest}
 use Rattle.std.specs.List.{position, list_any}
 use Rattle.uw_subst.specs.Forms.{form_of, form_text, is_bad_form}
 use Rattle.uw_subst.specs.Templates.{capture, form, unclosed, first_bad, first_piece, form_piece, piece_len, pieces_of}
-use Rattle.uw_subst.specs.Parts.{IsFormPart, IsNextPart}
+use Rattle.uw_subst.specs.PartSteps.{IsFormPart, IsNextPart}
 use Rattle.uw_subst.specs.declared.parts.Part.{Part}
 use Rattle.uw_subst.specs.declared.parts.Part.TheVariants.{Capture}
 use Rattle.uw_subst.proofs.Positions.{first_found, none_found}

@@ -25,16 +25,16 @@ date_form None = bad
 date_form (Some seconds) = date seconds
 
 -- the seconds of a date: no text is 0
-abbrev pub seconds_of : List ℕ → Option ℕ
-seconds_of [] = Some 0
-seconds_of (digit ∷ digits) = decimal_of (digit ∷ digits)
+abbrev pub date_seconds : List ℕ → Option ℕ
+date_seconds [] = Some 0
+date_seconds (digit ∷ digits) = decimal_of (digit ∷ digits)
 
 -- a form by its name and its argument
 abbrev pub named_form : List ℕ → List ℕ → Form
 named_form name argument =
     if bytes_eq name (codes "qs") then query argument
     else (if bytes_eq name (codes "time") then (if bytes_eq argument (codes "unix") then time else bad)
-    else (if bytes_eq name (codes "httptime") then date_form (seconds_of argument)
+    else (if bytes_eq name (codes "httptime") then date_form (date_seconds argument)
     else (if bytes_eq name (codes "base64") then encoded argument else bad)))
 
 -- a form by its name and what stands behind the `[`: the argument, and a `]` (93) at the end

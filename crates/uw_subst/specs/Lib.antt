@@ -4,4 +4,6 @@ pub mod Dates
 pub mod Queries
 pub mod Parts
 pub mod Answers
-pub mod Starts
+pub mod StartSteps
+pub mod FillSteps
+pub mod PartSteps

@@ -47,39 +47,14 @@ abbrev pub IsSpan : List ℕ → Span → Type 0
 IsSpan text span = span.from + span.len ≤ length text
 
 -- the spans of a part lie within the text, and captures are counted from 1
-abbrev pub IsWithin : List ℕ → Part → Type 0
-IsWithin text (Constant span) = IsSpan text span
-IsWithin text (Capture number) = 1 ≤ number
-IsWithin text (Variable span) = IsSpan text span
-IsWithin text (Query span) = IsSpan text span
-IsWithin text Time = Unit {0}
-IsWithin text (Date seconds) = Unit {0}
-IsWithin text (Encoded span) = IsSpan text span
-
--- the part stands for the form
-pub record IsFormPart (text : List ℕ) (form : Form) (part : Part) : Type 0 where
-  pub same : form ≡ part_form text part
-  pub good : is_bad_form form ≡ false
-  pub within : IsWithin text part
-
--- from a place on, a text says what the part says, and then what it says from another place on
-pub record IsNextPart (text : List ℕ) (at : ℕ) (part : Part) (end : ℕ) : Type 0 where
-  pub same : (vars : List Pair) (captures : List (List ℕ)) (moment : ℕ) →
-      filled (drop at text) vars captures moment ≡ part_text text vars captures moment part ++ filled (drop end text) vars captures moment
-  pub forms : has_form (drop at text) ≡ (is_filled_part part || has_form (drop end text))
-  pub good : first_bad at (pieces_of (drop at text)) ≡ first_bad end (pieces_of (drop end text))
-  pub within : IsWithin text part
-  pub later : at < end
-  pub inside : end ≤ length text
-
--- up to a place, the parts say what the text says
-pub record AreReadUpTo (text : List ℕ) (parts : List Part) (at : ℕ) : Type 0 where
-  pub same : (vars : List Pair) (captures : List (List ℕ)) (moment : ℕ) →
-      flat_map (part_text text vars captures moment) parts ++ filled (drop at text) vars captures moment ≡ filled text vars captures moment
-  pub forms : (list_any is_filled_part parts || has_form (drop at text)) ≡ has_form text
-  pub good : first_bad at (pieces_of (drop at text)) ≡ fault_of text
-  pub within : All (IsWithin text) parts
-  pub inside : at ≤ length text
+abbrev pub IsPartOf : List ℕ → Part → Type 0
+IsPartOf text (Constant span) = IsSpan text span
+IsPartOf text (Capture number) = 1 ≤ number
+IsPartOf text (Variable span) = IsSpan text span
+IsPartOf text (Query span) = IsSpan text span
+IsPartOf text Time = Unit {0}
+IsPartOf text (Date seconds) = Unit {0}
+IsPartOf text (Encoded span) = IsSpan text span
 
 -- the text is a template, and the parts say what it says
 pub record AreParts (text : List ℕ) (parts : List Part) : Type 0 where
@@ -87,4 +62,4 @@ pub record AreParts (text : List ℕ) (parts : List Part) : Type 0 where
       flat_map (part_text text vars captures moment) parts ≡ filled text vars captures moment
   pub forms : list_any is_filled_part parts ≡ has_form text
   pub good : fault_of text ≡ None
-  pub within : All (IsWithin text) parts
+  pub within : All (IsPartOf text) parts

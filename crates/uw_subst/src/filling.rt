@@ -6,9 +6,9 @@ ghost use Rattle.std.specs.Str.{bytes_eq};
 ghost use Rattle.base64.specs.Engines.{standard};
 ghost use Rattle.base64.specs.GeneralPurpose.{encode_of, encoded_size_of};
 ghost use Rattle.uw_base.specs.Variables.{value_of};
-ghost use Rattle.uw_subst.specs.Answers.{PutsAll, PutsWithin};
+ghost use Rattle.uw_subst.specs.FillSteps.{PutsAll, PutsWithin};
 ghost use Rattle.uw_subst.specs.Dates.{date_at};
-ghost use Rattle.uw_subst.specs.Parts.{IsSpan, IsWithin, part_text, span_bytes};
+ghost use Rattle.uw_subst.specs.Parts.{IsSpan, IsPartOf, part_text, span_bytes};
 ghost use Rattle.uw_subst.specs.Queries.{decoded, query_value};
 
 use crate::dates::date_after;
@@ -189,7 +189,7 @@ fn put_part(
     part: Part,
     from: &Filling<'_>,
 ) -> Result<Option<usize>, Memory>
-    requires { IsWithin from.now.text.now part }
+    requires { IsPartOf from.now.text.now part }
     ensures { PutsWithin room out.old out.new (part_text from.now.text.now from.now.vars.now from.now.captures.now from.now.moment part) result }
 {
     match part {
@@ -217,7 +217,7 @@ pub fn put_parts(
     parts: &[Part],
     from: &Filling<'_>,
 ) -> Result<bool, Memory>
-    requires { All (IsWithin from.now.text.now) parts.now }
+    requires { All (IsPartOf from.now.text.now) parts.now }
     ensures { PutsAll out.old out.new (flat_map (part_text from.now.text.now from.now.vars.now from.now.captures.now from.now.moment) parts.now) result }
 {
     let mut room = MOST_FILLED;

@@ -1,11 +1,12 @@
 // The text between the braces of a form.
 ghost use Rattle.std.specs.Prelude.{◌≡◌, ◌==◌, ◌+◌, ◌-◌, ◌^◌, ◌<◌, ◌≤◌, ℕ, List, length, position, slice_index, slice_range, MatchOption};
-ghost use Rattle.std.specs.Str.{bytes_eq};
-ghost use Rattle.uw_subst.specs.Forms.{bad, form_of, bracket_form, named_form, seconds_of, variable_form};
-ghost use Rattle.uw_subst.specs.Parts.{IsFormPart, IsSpan, span_bytes};
+ghost use Rattle.uw_subst.specs.Forms.{bad, form_of, bracket_form, named_form, date_seconds, variable_form};
+ghost use Rattle.uw_subst.specs.Parts.{IsSpan, span_bytes};
+ghost use Rattle.uw_subst.specs.PartSteps.{IsFormPart};
 
 use crate::parts::{Part, Span};
 use uw_base::read_decimal;
+use uw_base::texts::is;
 
 /// The place of the first such byte.
 pub fn place_of(text: &[u8], byte: u8) -> Option<usize>
@@ -14,16 +15,9 @@ pub fn place_of(text: &[u8], byte: u8) -> Option<usize>
     text.iter().position(|other| *other == byte)
 }
 
-// Whether a text is the word.
-fn is(text: &[u8], word: &[u8]) -> bool
-    ensures { result ≡ bytes_eq text.now word.now }
-{
-    text == word
-}
-
 // The seconds of a date: no text is 0.
 fn seconds_of(text: &[u8]) -> Option<u64>
-    ensures { result ≡ seconds_of text.now }
+    ensures { result ≡ date_seconds text.now }
 {
     if text.is_empty() {
         return Some(0);

@@ -2,8 +2,9 @@
 ghost use Rattle.std.specs.Prelude.{◌≡◌, ◌+◌, ◌-◌, ◌^◌, ◌<◌, ◌≤◌, ◌∷◌, ◌++◌, Some, length, take, drop, map, [], IfOk, IfErr, OnOk, OnErr};
 ghost use Rattle.std.specs.Bool.{OnTrue};
 ghost use Rattle.uw_subst.specs.Answers.{IsFaultOf};
-ghost use Rattle.uw_subst.specs.Parts.{AreParts, IsNextPart};
-ghost use Rattle.uw_subst.specs.Starts.{StartsWith};
+ghost use Rattle.uw_subst.specs.Parts.{AreParts};
+ghost use Rattle.uw_subst.specs.PartSteps.{IsNextPart};
+ghost use Rattle.uw_subst.specs.StartSteps.{StartsWith};
 ghost use Rattle.uw_subst.specs.Templates.{plain, first_bad, pieces_of};
 ghost use Rattle.uw_subst.specs.declared.template.SubstFault.TheVariants as faults;
 

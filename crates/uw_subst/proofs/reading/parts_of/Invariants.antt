@@ -1,5 +1,5 @@
 use Rattle.std.proofs.Common.{◌-◌, length}
-use Rattle.uw_subst.specs.Parts.{AreReadUpTo}
+use Rattle.uw_subst.specs.PartSteps.{AreReadUpTo}
 use Rattle.uw_subst.proofs.reading.parts_of.Given as goal
 
 -- the parts so far say what the text says up to the place
