@@ -1,5 +1,5 @@
 -- An entry that a call wrote stands at the first run of the list that has room for it.
-use Rattle.std.proofs.Common.{◌≡◌, ◌≢◌, ℕ, ◌≤◌, nat_lt, Bool, true, false, not, ◌&&◌, cond, List, [], ◌∷◌, length, Option, Some, None, is_some, unwrap_or, ℤ, refl, sym, ap, ◌∙◌}
+use Rattle.std.proofs.Common.{◌≡◌, ◌≢◌, ℕ, ◌≤◌, nat_lt, Bool, true, false, not, cond, List, [], ◌∷◌, length, Option, Some, None, is_some, unwrap_or, ℤ, refl, ap}
 use Rattle.std.proofs.lemmas.Bool.{and_parts, cond-true, ltb-false}
 use Rattle.uw_model.specs.declared.conf.CacheConf.{CacheConf}
 use Rattle.uw_model.specs.declared.entries.Entry.{Entry}
@@ -11,7 +11,7 @@ use Rattle.uw_model.specs.Entries.{IsCacheConf, max_value, span}
 use Rattle.uw_model.specs.Placement.{first_run, room}
 use Rattle.uw_model.specs.Calls.{Outcome, refused, is_bad_key, is_too_long, alive_at, without, placed, written, is_no_number, number_at, result_of, is_zero_division, is_in_range, bytes_of_number, dies_of_number, answer, next_state, dies_at}
 use Rattle.uw_model.specs.Laws.{IsWritten}
-use Rattle.uw_model.proofs.NextStateLemmas.{fit_of, number_fit, some_of}
+use Rattle.uw_model.proofs.NextStateLemmas.{number_fit, some_of}
 use Rattle.uw_model.proofs.RoomLemmas.{room_is, span_within, empty_fits}
 
 pub empty_room : (conf : CacheConf) (value : List ℕ) (now : ℕ) → IsCacheConf conf → length value ≤ max_value conf → room conf [] (span conf value) now ≡ Some []

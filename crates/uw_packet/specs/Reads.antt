@@ -1,5 +1,5 @@
 -- What a read of a header, a block or a body took from a source, and why it was refused.
-use Rattle.std.specs.Prelude.{◌≡◌, ℕ, ◌<◌, ◌≤◌, ◌^◌, ◌⊎◌, Bool, true, List, [], ◌++◌, length, Option, None, Some, Result, Ok, Err}
+use Rattle.std.specs.Prelude.{◌≡◌, ℕ, ◌<◌, ◌≤◌, ◌^◌, ◌⊎◌, true, List, [], ◌++◌, length, Option, None, Some, Result, Ok, Err}
 use Rattle.uw_outside.specs.Faults.{Rose}
 use Rattle.uw_outside.specs.Streams.{Inflow, Takes, IsExhausted}
 use Rattle.uw_packet.specs.declared.packet.Header.{Header}
