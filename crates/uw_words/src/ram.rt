@@ -1,5 +1,5 @@
 // The words of a region.
-ghost use Rattle.std.specs.Prelude.{◌≡◌, ◌<◌, ◌&&◌, not, false, length, replicate, slice_set, is_ok, IfOk, OnOk, OnErr};
+ghost use Rattle.std.specs.Prelude.{◌≡◌, ◌<◌, ◌^◌, ◌&&◌, not, false, length, replicate, slice_set, is_ok, IfOk, OnOk, OnErr};
 ghost use Rattle.uw_outside.specs.Faults.{HasCause};
 ghost use Rattle.uw_outside.specs.Lives.{Allows};
 ghost use Rattle.uw_words.specs.Plans.{region};
@@ -35,7 +35,8 @@ impl Ram {
 
     /// The number of words.
     pub fn len(&self) -> u64
-        ensures { result ≡ length self.now }
+        ensures len { result ≡ length self.now }
+        ensures small { result < 2 ^ 63 }
     {
         self.words.len() as u64
     }

@@ -1,0 +1,9 @@
+//! The redo record of a region: planned words are first laid into it and then copied to their places, so that whoever
+//! comes after a death, at whatever word write, finds the old words or finishes the new ones.
+#![tactic(auto)]
+
+mod frame;
+mod redo;
+
+pub use frame::{Frame, WordWrite};
+pub use redo::{commit, nth_write};
