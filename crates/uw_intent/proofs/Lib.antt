@@ -1,2 +1,4 @@
 pub mod Listed
 pub mod Progress
+pub mod Runs
+pub mod Repairs

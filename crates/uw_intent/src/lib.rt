@@ -2,8 +2,11 @@
 //! comes after a death, at whatever word write, finds the old words or finishes the new ones.
 #![tactic(auto)]
 
+mod cursor;
 mod frame;
+mod recovery;
 mod redo;
 
 pub use frame::{Frame, WordWrite};
+pub use recovery::{is_pending, nth_repair, recover};
 pub use redo::{commit, nth_write};

@@ -1,0 +1,34 @@
+use Rattle.std.proofs.Common.{◌≢◌, ◌&&◌, Bool, true, not, is_ok, ap, refl, ◌∙◌, subst}
+use Rattle.uw_outside.specs.Lives.{Allows}
+use Rattle.uw_outside.specs.Faults.{HasCause}
+use Rattle.uw_words.specs.Plans.{region}
+use Rattle.uw_intent.specs.RedoRecord.{IsRecord}
+use Rattle.uw_intent.proofs.Repairs.{open_gate, open_record, repairs_open, walk_on, closed_all}
+use Rattle.uw_intent.proofs.recovery.recover.Goals as goal
+
+pub loop-write-preserved : goal.loop-write-preserved
+loop-write-preserved g c =
+    let frame = c.args.frame.now in
+    let old = c.args.ram.now in
+    let gate : region old frame.gate ≢ 0 = open_gate (region old frame.gate) c.is_pending.result c.if-not-is_pending.false c.is_pending.ensures in
+    let record_ : IsRecord frame old = open_record frame old c.requires.intact gate in
+    let allows = c.in_ok-store.ensures.told in
+    record {
+      walked = walk_on frame old (g.L.Life.allowances c.args.life.now) c.loop-write.ram (g.L.Life.allowances c.loop-write.life) c.loop-write.cursor c.loop-write.invariant.walked
+        c.store.new.self (g.L.Life.allowances c.store.new.life) c.step.new.self c.in-Some.write record_ c.in-Some.ensures.some c.step.ensures.runs c.step.ensures.end c.step.ensures.next
+        c.in_ok-store.ensures.stored (allows.counted refl);
+      alive = c.in_ok-store.ensures.alive ∙ ap (λ (b : Bool). b && true) c.loop-write.invariant.alive;
+      deaths =
+        (subst (λ (b : Bool). HasCause (g.L.Life.deaths c.loop-write.life) (g.L.Life.deaths c.store.new.life) (b && not true)) c.loop-write.invariant.alive c.in_ok-store.ensures.cause).kept refl
+        ∙ c.loop-write.invariant.deaths;
+    }
+
+pub returns-clause-all : goal.returns-clause-all
+returns-clause-all g c =
+    let frame = c.args.frame.now in
+    let old = c.args.ram.now in
+    let gate : region old frame.gate ≢ 0 = open_gate (region old frame.gate) c.is_pending.result c.if-not-is_pending.false c.is_pending.ensures in
+    let allows = subst (λ (b : Bool). Allows (g.L.Life.allowances c.loop-write.life) (g.L.Life.allowances c.store-2.new.life) b (is_ok c.store-2.result)) c.loop-write.invariant.alive c.store-2.ensures.told in
+    rw (repairs_open frame old gate)
+    (closed_all frame old (g.L.Life.allowances c.args.life.now) c.loop-write.ram (g.L.Life.allowances c.loop-write.life) c.loop-write.cursor c.loop-write.invariant.walked c.in_default.ensures.none
+      c.store-2.new.self (g.L.Life.allowances c.store-2.new.life) c.store-2.result c.store-2.ensures.stored allows)
