@@ -2,3 +2,5 @@ pub mod Listed
 pub mod Progress
 pub mod Runs
 pub mod Repairs
+pub mod Words
+pub mod Recoveries

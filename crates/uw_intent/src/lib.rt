@@ -4,6 +4,7 @@
 
 mod cursor;
 mod frame;
+pub mod laws;
 mod recovery;
 mod redo;
 
