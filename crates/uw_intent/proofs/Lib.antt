@@ -4,3 +4,4 @@ pub mod Runs
 pub mod Repairs
 pub mod Words
 pub mod Recoveries
+pub mod Commits

@@ -1,15 +1,15 @@
 -- What the words stand for while a recovery goes on.
-use Rattle.std.proofs.Common.{◌≡◌, ◌≢◌, ◌⊎◌, inl, inr, ⊎_elim, ℕ, zero, suc, ◌+◌, ◌-◌, ◌<◌, ◌≤◌, All, List, [], ◌∷◌, ◌++◌, length, get_or, set, take, drop, refl, sym, ap, ◌∙◌, subst, arith}
+use Rattle.std.proofs.Common.{◌≡◌, ◌≢◌, ◌⊎◌, inl, inr, ⊎_elim, ℕ, ◌+◌, ◌<◌, ◌≤◌, All, List, [], ◌∷◌, ◌++◌, length, get_or, take, drop, sym, ap, ◌∙◌, subst, arith}
 use Rattle.std.proofs.lemmas.Bool.{cases_lt}
 use Rattle.std.proofs.lemmas.Bool.Decides.{nat_tests}
-use Rattle.std.proofs.lemmas.List.{length-append, take-append-le, take_all}
+use Rattle.std.proofs.lemmas.List.{take-append-le, take_all}
 use Rattle.std.proofs.lemmas.List.Elements.{All-cons, All-nil, All-take, All-append}
 use Rattle.uw_words.specs.Plans.{region}
 use Rattle.uw_intent.specs.declared.frame.WordWrite.{WordWrite}
 use Rattle.uw_intent.specs.declared.frame.Frame.{Frame}
 use Rattle.uw_intent.specs.Stores.{made}
-use Rattle.uw_intent.specs.RedoRecord.{IsFrame, IsBeyond, IsTarget, IsWhole, IsRecord, IsIntact, run_writes, text_of, closing, repairs, applied}
-use Rattle.uw_intent.proofs.Progress.{length-made, made-append}
+use Rattle.uw_intent.specs.RedoRecord.{IsFrame, IsTarget, IsWhole, IsRecord, IsIntact, run_writes, text_of, closing, repairs, applied}
+use Rattle.uw_intent.proofs.Progress.{length-made}
 use Rattle.uw_intent.proofs.Repairs.{run_repairs, repairs_open, repairs_closed, length_more}
 use Rattle.uw_intent.proofs.Words.{word_after, AllWithin, AllAway, get_or-made, word_after-append, word_after_away, made_again, part_made}
 
