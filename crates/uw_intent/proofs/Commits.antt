@@ -132,13 +132,16 @@ module _ (frame : Frame) (words : List ℕ) (plan : List (ℕ × ℕ)) (is : IsF
   laid_within : AllWithin (length words) record_laid
   laid_within = laid_all (λ (w : WordWrite). w.at < length words) (λ w h. omega (arith, h.1, text_within)) used_within
 
+  away_from_record : (at : ℕ) → (at < frame.start) ⊎ (frame.start + frame.room ≤ at) → at ≢ frame.used → AllAway at record_laid
+  away_from_record at outside used = laid_all (λ (w : WordWrite). w.at ≢ at)
+    (λ w h same. ⊎_elim (λ before. omega (arith, before, h.0, same)) (λ behind. omega (arith, behind, h.1, same, length-runs_of plan, fit.room)) outside)
+    (λ same. used (sym same))
+
   laid_away : (at : ℕ) → IsBeyond frame at → AllAway at record_laid
-  laid_away at beyond = laid_all (λ (w : WordWrite). w.at ≢ at)
-    (λ w h same. ⊎_elim (λ before. omega (arith, before, h.0, same)) (λ behind. omega (arith, behind, h.1, same, length-runs_of plan, fit.room)) beyond.outside)
-    (λ same. beyond.used (sym same))
+  laid_away at beyond = away_from_record at beyond.outside beyond.used
 
   laid_away_gate : AllAway frame.gate record_laid
-  laid_away_gate = laid_all (λ (w : WordWrite). w.at ≢ frame.gate) (λ w h same. omega (arith, h.0, same, is.gate, is.start)) (λ same. omega (arith, same, is.gate, is.used))
+  laid_away_gate = away_from_record frame.gate (inl (omega (arith, is.gate, is.start))) (λ same. omega (arith, same, is.gate, is.used))
 
   length-record_laid : length record_laid ≡ 3 * length plan + 1
   length-record_laid = omega (arith, length-append (laid frame.start (runs_of plan)) (using ∷ []), length-laid frame.start (runs_of plan), length-runs_of plan)
@@ -269,6 +272,11 @@ module _ (frame : Frame) (words : List ℕ) (plan : List (ℕ × ℕ)) (is : IsF
         ∙ ap (λ (l : List WordWrite). region (made l now) at) (repairs_closed frame now (closed_before k))
         ∙ before_gate k at (laid_away at beyond)
 
+    some_kept : (k at : ℕ) → k ≤ 3 * length plan + 1 → (at < frame.start) ⊎ (frame.start + frame.room ≤ at) → at ≢ frame.used
+        → region (made (take k (commit_writes frame plan)) words) at ≡ region words at
+    some_kept k at early outside used =
+        ap (λ (l : List WordWrite). region (made l words) at) (before k early) ∙ before_gate k at (away_from_record at outside used)
+
     some_new : (k : ℕ) → HasDistinctPlaces plan → 3 * length plan + 1 < k → StandsAs frame (made (take k (commit_writes frame plan)) words) (through plan (region words))
     some_new k distinct late at beyond =
         let j = k - (3 * length plan + 2) in
@@ -309,6 +317,12 @@ pub stands_old : (frame : Frame) (words : List ℕ) (plan : List (ℕ × ℕ)) (
     → k ≤ 3 * length plan + 1 → StandsAs frame (made (take k (commit_writes frame plan)) words) (region words)
 stands_old frame words [] k is idle fit early = stands_idle frame words k idle
 stands_old frame words (p ∷ plan) k is idle fit early = some_old frame words (p ∷ plan) is idle fit (omega arith) k early
+
+pub keeps_others : (frame : Frame) (words : List ℕ) (plan : List (ℕ × ℕ)) (k : ℕ) → IsFrame frame (length words) → region words frame.gate ≡ 0 → IsFit frame (length words) plan
+    → k ≤ 3 * length plan + 1 → (at : ℕ) → (at < frame.start) ⊎ (frame.start + frame.room ≤ at) → at ≢ frame.used
+    → region (made (take k (commit_writes frame plan)) words) at ≡ region words at
+keeps_others frame words [] k is idle fit early at outside used = ap (λ (l : List ℕ). region l at) (nothing_made frame words k)
+keeps_others frame words (p ∷ plan) k is idle fit early at outside used = some_kept frame words (p ∷ plan) is idle fit (omega arith) k at early outside used
 
 pub stands_new : (frame : Frame) (words : List ℕ) (plan : List (ℕ × ℕ)) (k : ℕ) → IsFrame frame (length words) → region words frame.gate ≡ 0 → IsFit frame (length words) plan → HasDistinctPlaces plan
     → 3 * length plan + 1 < k → StandsAs frame (made (take k (commit_writes frame plan)) words) (through plan (region words))

@@ -1,5 +1,5 @@
 //! Laws of the record, over all words and plans. Each is the contract of a function that does nothing.
-ghost use Rattle.std.specs.Prelude.{◌≡◌, ◌+◌, ◌*◌, ◌<◌, ◌≤◌, None, ℕ, List, take, length};
+ghost use Rattle.std.specs.Prelude.{◌≡◌, ◌≢◌, ◌⊎◌, ◌+◌, ◌*◌, ◌<◌, ◌≤◌, None, ℕ, List, take, length};
 ghost use Rattle.uw_words.specs.Plans.{region, through, planned, HasDistinctPlaces};
 ghost use Rattle.uw_intent.specs.declared.frame.Frame.{Frame};
 ghost use Rattle.uw_intent.specs.declared.frame.WordWrite.{WordWrite};
@@ -36,6 +36,14 @@ pub fn unopened_commit_stands_for_old_words()
     ensures { (frame : Frame) (words : List ℕ) (plan : List (ℕ × ℕ)) (k : ℕ) → IsFrame frame (length words)
         → region words frame.gate ≡ 0 → IsFit frame (length words) plan → k ≤ 3 * length plan + 1
         → StandsAs frame (made (take k (commit_writes frame plan)) words) (region words) }
+{}
+
+/// Before the gate has opened, only the record and the used word differ from the old words.
+pub fn unopened_commit_changes_the_record_only()
+    ensures { (frame : Frame) (words : List ℕ) (plan : List (ℕ × ℕ)) (k : ℕ) → IsFrame frame (length words)
+        → region words frame.gate ≡ 0 → IsFit frame (length words) plan → k ≤ 3 * length plan + 1
+        → (at : ℕ) → (at < frame.start) ⊎ (frame.start + frame.room ≤ at) → at ≢ frame.used
+        → region (made (take k (commit_writes frame plan)) words) at ≡ region words at }
 {}
 
 /// From the write that opens the gate on, the words stand for the planned ones.
