@@ -1,9 +1,10 @@
 -- Writes that are made one by one.
-use Rattle.std.proofs.Common.{◌≡◌, ℕ, ◌+◌, ◌≤◌, Bool, true, false, not, List, [], ◌∷◌, ◌++◌, Option, Some, None, IfSome, length, set, take, refl, sym, ap, ◌∙◌, subst, arith}
+use Rattle.std.proofs.Common.{◌≡◌, ℕ, ◌+◌, ◌≤◌, Bool, true, false, not, List, [], ◌∷◌, ◌++◌, Option, Some, None, IfSome, length, set, take, refl, sym, ap, ◌∙◌, subst, arith, ◌&&◌}
 use Rattle.std.specs.List.{slice_get}
 use Rattle.std.specs.Option.{option_map}
 use Rattle.std.proofs.lemmas.List.{length-set, take_more, take_all}
 use Rattle.std.proofs.lemmas.Option.{get_or_from_slice_get, slice_get_within}
+use Rattle.uw_outside.specs.Faults.{HasCause}
 use Rattle.uw_outside.specs.Lives.{raised, is_spent, Spends, IsSpent, Allows}
 use Rattle.uw_intent.specs.declared.frame.WordWrite.{WordWrite}
 use Rattle.uw_intent.specs.Stores.{made, AllMade, SomeMade}
@@ -81,3 +82,12 @@ module _ (writes : List WordWrite) (before : List ℕ) (told : Option (List ℕ)
         words = so_far.words ∙ ap (λ (l : List WordWrite). made l before) (take_all count writes all);
         spent = subst (Spends told left) same so_far.spent;
       }
+
+-- a write that was let through leaves a life alive, and its deaths
+pub still_alive : (old new : Bool) → old ≡ true → new ≡ (old && true) → new ≡ true
+still_alive old new was is = is ∙ ap (λ (b : Bool). b && true) was
+
+pub same_deaths : (alive : Bool) (first before now : ℕ) → alive ≡ true → HasCause before now (alive && not true) → before ≡ first → now ≡ first
+same_deaths alive first before now was cause same =
+    let counted : HasCause before now (true && not true) = subst (λ (b : Bool). HasCause before now (b && not true)) was cause in
+    counted.kept refl ∙ same

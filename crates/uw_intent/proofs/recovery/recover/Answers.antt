@@ -1,8 +1,8 @@
-use Rattle.std.proofs.Common.{◌≢◌, ◌&&◌, Bool, true, not, is_ok, ap, refl, ◌∙◌, subst}
+use Rattle.std.proofs.Common.{◌≢◌, Bool, is_ok, refl, subst}
 use Rattle.uw_outside.specs.Lives.{Allows}
-use Rattle.uw_outside.specs.Faults.{HasCause}
 use Rattle.uw_words.specs.Plans.{region}
 use Rattle.uw_intent.specs.RedoRecord.{IsRecord}
+use Rattle.uw_intent.proofs.Progress.{still_alive, same_deaths}
 use Rattle.uw_intent.proofs.Repairs.{open_gate, open_record, repairs_open, walk_on, closed_all}
 use Rattle.uw_intent.proofs.recovery.recover.Goals as goal
 
@@ -17,10 +17,10 @@ loop-write-preserved g c =
       walked = walk_on frame old (g.L.Life.allowances c.args.life.now) c.loop-write.ram (g.L.Life.allowances c.loop-write.life) c.loop-write.cursor c.loop-write.invariant.walked
         c.store.new.self (g.L.Life.allowances c.store.new.life) c.step.new.self c.in-Some.write record_ c.in-Some.ensures.some c.step.ensures.runs c.step.ensures.end c.step.ensures.next
         c.in_ok-store.ensures.stored (allows.counted refl);
-      alive = c.in_ok-store.ensures.alive ∙ ap (λ (b : Bool). b && true) c.loop-write.invariant.alive;
+      alive = still_alive (g.L.Life.alive c.loop-write.life) (g.L.Life.alive c.store.new.life) c.loop-write.invariant.alive c.in_ok-store.ensures.alive;
       deaths =
-        (subst (λ (b : Bool). HasCause (g.L.Life.deaths c.loop-write.life) (g.L.Life.deaths c.store.new.life) (b && not true)) c.loop-write.invariant.alive c.in_ok-store.ensures.cause).kept refl
-        ∙ c.loop-write.invariant.deaths;
+        same_deaths (g.L.Life.alive c.loop-write.life) (g.L.Life.deaths c.args.life.now) (g.L.Life.deaths c.loop-write.life) (g.L.Life.deaths c.store.new.life)
+        c.loop-write.invariant.alive c.in_ok-store.ensures.cause c.loop-write.invariant.deaths;
     }
 
 pub returns-clause-all : goal.returns-clause-all

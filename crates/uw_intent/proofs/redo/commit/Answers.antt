@@ -1,13 +1,12 @@
-use Rattle.std.proofs.Common.{◌≡◌, Bool, ◌&&◌, not, take, ℕ, ◌+◌, ◌-◌, ◌<◌, true, false, length, Some, ap, refl, ◌∙◌, subst, arith}
+use Rattle.std.proofs.Common.{◌≡◌, Bool, take, ℕ, ◌+◌, ◌-◌, ◌<◌, false, length, Some, ap, refl, ◌∙◌, subst, arith}
 use Rattle.std.specs.List.{slice_get}
 use Rattle.std.proofs.lemmas.List.Elements.{All-get_or}
 use Rattle.std.proofs.lemmas.Option.{slice_get_within, get_or_from_slice_get}
 use Rattle.uw_outside.specs.Lives.{Allows}
-use Rattle.uw_outside.specs.Faults.{HasCause}
 use Rattle.uw_intent.specs.declared.frame.WordWrite.{WordWrite}
 use Rattle.uw_intent.specs.RedoRecord.{commit_writes}
 use Rattle.uw_intent.proofs.Listed.{numbered_some, numbered_none, commit_within, length-commit_writes, some}
-use Rattle.uw_intent.proofs.Progress.{SoFar, length-made, one_more, no_more, all_made}
+use Rattle.uw_intent.proofs.Progress.{still_alive, same_deaths, SoFar, length-made, one_more, no_more, all_made}
 use Rattle.uw_intent.proofs.redo.commit.Goals as goal
 use Rattle.uw_intent.proofs.redo.commit.Goals.{In-Some}
 use Rattle.uw_intent.proofs.redo.commit.Given.{Over}
@@ -60,10 +59,10 @@ loop-write-preserved g c =
     record {
       first = omega arith;
       so_far = subst (λ (n : ℕ). SoFar writes c.args.ram.now c.store.new.self (g.L.Life.allowances c.args.life.now) (g.L.Life.allowances c.store.new.life) n) count more;
-      alive = c.in_ok-store.ensures.alive ∙ ap (λ (b : Bool). b && true) c.loop-write.invariant.alive;
+      alive = still_alive (g.L.Life.alive c.loop-write.life) (g.L.Life.alive c.store.new.life) c.loop-write.invariant.alive c.in_ok-store.ensures.alive;
       deaths =
-          (subst (λ (b : Bool). HasCause (g.L.Life.deaths c.loop-write.life) (g.L.Life.deaths c.store.new.life) (b && not true)) c.loop-write.invariant.alive c.in_ok-store.ensures.cause).kept refl
-          ∙ c.loop-write.invariant.deaths;
+        same_deaths (g.L.Life.alive c.loop-write.life) (g.L.Life.deaths c.args.life.now) (g.L.Life.deaths c.loop-write.life) (g.L.Life.deaths c.store.new.life)
+        c.loop-write.invariant.alive c.in_ok-store.ensures.cause c.loop-write.invariant.deaths;
     }
 
 pub returns-clause-all : goal.returns-clause-all
