@@ -6,6 +6,8 @@ mod overlay;
 mod ram;
 mod shape;
 mod slots;
+#[cfg(test)]
+mod tests;
 
 pub use overlay::Overlay;
 pub use ram::Ram;
