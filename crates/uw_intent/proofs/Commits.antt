@@ -134,8 +134,8 @@ module _ (frame : Frame) (words : List ℕ) (plan : List (ℕ × ℕ)) (is : IsF
 
   away_from_record : (at : ℕ) → (at < frame.start) ⊎ (frame.start + frame.room ≤ at) → at ≢ frame.used → AllAway at record_laid
   away_from_record at outside used = laid_all (λ (w : WordWrite). w.at ≢ at)
-    (λ w h same. ⊎_elim (λ before. omega (arith, before, h.0, same)) (λ behind. omega (arith, behind, h.1, same, length-runs_of plan, fit.room)) outside)
-    (λ same. used (sym same))
+      (λ w h same. ⊎_elim (λ before. omega (arith, before, h.0, same)) (λ behind. omega (arith, behind, h.1, same, length-runs_of plan, fit.room)) outside)
+      (λ same. used (sym same))
 
   laid_away : (at : ℕ) → IsBeyond frame at → AllAway at record_laid
   laid_away at beyond = away_from_record at beyond.outside beyond.used
@@ -209,8 +209,8 @@ module _ (frame : Frame) (words : List ℕ) (plan : List (ℕ × ℕ)) (is : IsF
     within = omega (arith, opened_used, fit.room);
     whole = subst (IsWhole 0) (sym opened_text) (whole-runs_of plan);
     targets =
-      subst (λ (n : ℕ). All (λ (w : WordWrite). IsTarget frame n w.at) (run_repairs frame opened)) (sym length-opened)
-      (subst (All (λ (w : WordWrite). IsTarget frame (length words) w.at)) (sym opened_runs) copies_targets);
+        subst (λ (n : ℕ). All (λ (w : WordWrite). IsTarget frame n w.at) (run_repairs frame opened)) (sym length-opened)
+        (subst (All (λ (w : WordWrite). IsTarget frame (length words) w.at)) (sym opened_runs) copies_targets);
   }
 
   opened_repairs : repairs frame opened ≡ copied
@@ -218,7 +218,7 @@ module _ (frame : Frame) (words : List ℕ) (plan : List (ℕ × ℕ)) (is : IsF
 
   copied_within : AllWithin (length opened) copied
   copied_within = subst (λ (n : ℕ). AllWithin n copied) (sym length-opened)
-    (All-append (λ (w : WordWrite). w.at < length words) (copies plan) (closing frame ∷ [])
+      (All-append (λ (w : WordWrite). w.at < length words) (copies plan) (closing frame ∷ [])
       (all_weaker (λ (w : WordWrite). IsTarget frame (length words) w.at) (λ (w : WordWrite). w.at < length words) (copies plan) (λ w target. target.within) copies_targets)
       (All-cons (λ (w : WordWrite). w.at < length words) (closing frame) [] gate_within (All-nil (λ (w : WordWrite). w.at < length words))))
 
@@ -294,10 +294,10 @@ module _ (frame : Frame) (words : List ℕ) (plan : List (ℕ × ℕ)) (is : IsF
 
     some_away : (at : ℕ) → IsBeyond frame at → planned plan at ≡ None → AllAway at (commit_writes frame plan)
     some_away at beyond none = subst (AllAway at) (sym split)
-      (All-append (λ (w : WordWrite). w.at ≢ at) record_laid (opening ∷ copied) (laid_away at beyond)
+        (All-append (λ (w : WordWrite). w.at ≢ at) record_laid (opening ∷ copied) (laid_away at beyond)
         (All-cons (λ (w : WordWrite). w.at ≢ at) opening copied (λ same. beyond.gate (sym same))
-          (All-append (λ (w : WordWrite). w.at ≢ at) (copies plan) (closing frame ∷ []) (copies_unplanned plan at none)
-            (All-cons (λ (w : WordWrite). w.at ≢ at) (closing frame) [] (λ same. beyond.gate (sym same)) (All-nil (λ (w : WordWrite). w.at ≢ at))))))
+        (All-append (λ (w : WordWrite). w.at ≢ at) (copies plan) (closing frame ∷ []) (copies_unplanned plan at none)
+        (All-cons (λ (w : WordWrite). w.at ≢ at) (closing frame) [] (λ same. beyond.gate (sym same)) (All-nil (λ (w : WordWrite). w.at ≢ at))))))
 
 -- a commit of any plan
 

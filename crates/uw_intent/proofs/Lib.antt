@@ -5,3 +5,4 @@ pub mod Repairs
 pub mod Words
 pub mod Recoveries
 pub mod Commits
+pub mod Outcomes

@@ -60,9 +60,9 @@ module _ (frame : Frame) (words : List ℕ) (is : IsFrame frame (length words)) 
     same_text =
         ap (λ (n : ℕ). take n (drop frame.start partly)) (stays frame.used used_away)
         ∙ part_made (take k runs) words frame.start (region words frame.used)
-          (All-take (λ (w : WordWrite). (w.at < frame.start) ⊎ (frame.start + region words frame.used ≤ w.at)) k runs
-            (all_weaker (λ (w : WordWrite). IsTarget frame (length words) w.at) (λ (w : WordWrite). (w.at < frame.start) ⊎ (frame.start + region words frame.used ≤ w.at)) runs
-              (λ w target. ⊎_elim (λ before. inl before) (λ behind. inr (omega (arith, behind, whole.within))) target.beyond.outside) whole.targets))
+        (All-take (λ (w : WordWrite). (w.at < frame.start) ⊎ (frame.start + region words frame.used ≤ w.at)) k runs
+        (all_weaker (λ (w : WordWrite). IsTarget frame (length words) w.at) (λ (w : WordWrite). (w.at < frame.start) ⊎ (frame.start + region words frame.used ≤ w.at)) runs
+        (λ w target. ⊎_elim (λ before. inl before) (λ behind. inr (omega (arith, behind, whole.within))) target.beyond.outside) whole.targets))
 
     same_runs : run_repairs frame partly ≡ runs
     same_runs = ap (run_writes 0 0) same_text
@@ -75,8 +75,8 @@ module _ (frame : Frame) (words : List ℕ) (is : IsFrame frame (length words)) 
       within = omega (arith, stays frame.used used_away, whole.within);
       whole = subst (IsWhole 0) (sym same_text) whole.whole;
       targets =
-        subst (λ (n : ℕ). All (λ (w : WordWrite). IsTarget frame n w.at) (run_repairs frame partly)) (sym (length-made (take k runs) words))
-        (subst (All (λ (w : WordWrite). IsTarget frame (length words) w.at)) (sym same_runs) whole.targets);
+          subst (λ (n : ℕ). All (λ (w : WordWrite). IsTarget frame n w.at) (run_repairs frame partly)) (sym (length-made (take k runs) words))
+          (subst (All (λ (w : WordWrite). IsTarget frame (length words) w.at)) (sym same_runs) whole.targets);
     }
 
     partly_open : region partly frame.gate ≢ 0
@@ -104,22 +104,22 @@ module _ (frame : Frame) (words : List ℕ) (is : IsFrame frame (length words)) 
 
   pub recovery_intact : (k : ℕ) → IsIntact frame (made (take k all) words)
   recovery_intact k = ⊎_elim
-    (λ before. inr (subst (λ (l : List WordWrite). (region (made l words) frame.gate ≡ 1) × IsRecord frame (made l words)) (sym before) (partly_gate k, partly_whole k)))
-    (λ over. inl (ap (λ (l : List WordWrite). region (made l words) frame.gate) over ∙ closed_gate))
-    (take_repairs k)
+      (λ before. inr (subst (λ (l : List WordWrite). (region (made l words) frame.gate ≡ 1) × IsRecord frame (made l words)) (sym before) (partly_gate k, partly_whole k)))
+      (λ over. inl (ap (λ (l : List WordWrite). region (made l words) frame.gate) over ∙ closed_gate))
+      (take_repairs k)
 
   pub recovery_applied : (k : ℕ) → applied frame (made (take k all) words) ≡ made all words
   recovery_applied k = ⊎_elim
-    (λ before.
+      (λ before.
       let again : made all (made (take k all) words) ≡ made all words = made_again all k words all_within in
       ap (λ (l : List WordWrite). made (repairs frame (made l words)) (made l words)) before
       ∙ ap (λ (l : List WordWrite). made l (made (take k runs) words)) (partly_repairs k)
       ∙ ap (λ (l : List WordWrite). made all (made l words)) (sym before) ∙ again)
-    (λ over.
+      (λ over.
       let none : repairs frame (made all words) ≡ [] = repairs_closed frame (made all words) closed_gate in
       ap (λ (l : List WordWrite). made (repairs frame (made l words)) (made l words)) over
       ∙ ap (λ (l : List WordWrite). made l (made all words)) none)
-    (take_repairs k)
+      (take_repairs k)
 
 -- a recovery where the gate is closed has no write
 none_made : (frame : Frame) (words : List ℕ) (k : ℕ) → region words frame.gate ≡ 0 → made (take k (repairs frame words)) words ≡ words
@@ -141,3 +141,15 @@ pub all_closed : (frame : Frame) (words : List ℕ) → IsFrame frame (length wo
 all_closed frame words is (inl closed) = ap (λ (l : List WordWrite). region (made l words) frame.gate) (repairs_closed frame words closed) ∙ closed
 all_closed frame words is (inr whole) =
     ap (λ (l : List WordWrite). region (made l words) frame.gate) (repairs_are frame words is whole.0 whole.1) ∙ closed_gate frame words is whole.0 whole.1
+
+-- after the first writes of a recovery whose gate is open
+module _ (frame : Frame) (old now : List ℕ) (k : ℕ) (is : IsFrame frame (length old)) (intact : IsIntact frame old) (gate : region old frame.gate ≢ 0)
+    (words : now ≡ made (take k (run_repairs frame old ++ closing frame ∷ [])) old) where
+  by_repairs : now ≡ made (take k (repairs frame old)) old
+  by_repairs = words ∙ ap (λ (l : List WordWrite). made (take k l) old) (sym (repairs_open frame old gate))
+
+  pub left_intact : IsIntact frame now
+  left_intact = subst (IsIntact frame) (sym by_repairs) (all_intact frame old k is intact)
+
+  pub left_same : applied frame now ≡ applied frame old
+  left_same = ap (applied frame) by_repairs ∙ all_applied frame old k is intact

@@ -133,7 +133,7 @@ module _ (frame : Frame) (old : List ℕ) (told : Option (List ℕ)) where
         let text : text_between after moved.next moved.end ≡ text_between now moved.next moved.end =
         ap (λ (l : List ℕ). text_between l moved.next moved.end) stored
         ∙ text_set now moved.next moved.end write.at write.word runs.before
-          (⊎_elim (λ before. inl (omega (arith, before, walked.from))) (λ behind. inr (omega (arith, behind, walked.end))) beyond.outside) in
+        (⊎_elim (λ before. inl (omega (arith, before, walked.from))) (λ behind. inr (omega (arith, behind, walked.end))) beyond.outside) in
         let len : length after ≡ length now = ap length stored ∙ length-set now write.at write.word in
         let ahead : writes_ahead moved after ≡ writes_ahead moved now = ap (run_writes moved.target moved.left) text in
         record {
@@ -147,8 +147,8 @@ module _ (frame : Frame) (old : List ℕ) (told : Option (List ℕ)) where
             small = omega (arith, runs.small);
             whole = subst (IsWhole moved.left) (sym text) runs.whole;
             targets =
-              subst (λ (n : ℕ). All (λ (w : WordWrite). w.at < n) (writes_ahead moved after)) (sym len)
-              (subst (All (λ (w : WordWrite). w.at < length now)) (sym ahead) runs.targets);
+                subst (λ (n : ℕ). All (λ (w : WordWrite). w.at < n) (writes_ahead moved after)) (sym len)
+                (subst (All (λ (w : WordWrite). w.at < length now)) (sym ahead) runs.targets);
           };
           from = omega (arith, walked.from);
           end = omega (arith, walked.end);

@@ -49,8 +49,7 @@ module _ (words : List ℕ) (end : ℕ) where
       let same : suc left - 1 ≡ left = omega arith in
       elim (cases_lt next end) [
         | inl more ↦
-            let one = text_more next more within in
-            (
+            let one = text_more next more within in (
               more,
               subst (λ (n : ℕ). IsWhole n (text (next + 1))) (sym same) (subst (IsWhole (suc left)) one whole),
               ap (run_writes target (suc left)) one ∙ ap (λ (n : ℕ). record { at = target; word = get_or words next 0 } ∷ run_writes (target + 1) n (text (next + 1))) (sym same),
@@ -62,15 +61,14 @@ module _ (words : List ℕ) (end : ℕ) where
 pub run_read : (words : List ℕ) (cursor : Cursor) (place count : ℕ) → IsOnRuns words cursor → cursor.left ≡ 0 → cursor.next < cursor.end
     → place ≡ get_or words cursor.next 0 → count ≡ get_or words (cursor.next + 1) 0
     → (let after : Cursor = record { next = cursor.next + 2; end = cursor.end; target = place; left = count } in
-      IsOnRuns words after × (0 < count) × (writes_ahead after words ≡ writes_ahead cursor words))
+    IsOnRuns words after × (0 < count) × (writes_ahead after words ≡ writes_ahead cursor words))
 run_read words cursor place count runs none more is_place is_count =
     let whole : IsWhole 0 (text_between words cursor.next cursor.end) = subst (λ (n : ℕ). IsWhole n (text_between words cursor.next cursor.end)) none runs.whole in
     let run = run_begins words cursor.end cursor.next cursor.target more runs.end whole in
     let rest = text_between words (cursor.next + 2) cursor.end in
     let ahead : run_writes place count rest ≡ writes_ahead cursor words =
     ap (λ (p : ℕ). run_writes p count rest) is_place ∙ ap (λ (n : ℕ). run_writes (get_or words cursor.next 0) n rest) is_count
-    ∙ sym run.3 ∙ ap (λ (n : ℕ). run_writes cursor.target n (text_between words cursor.next cursor.end)) (sym none) in
-    (
+    ∙ sym run.3 ∙ ap (λ (n : ℕ). run_writes cursor.target n (text_between words cursor.next cursor.end)) (sym none) in (
       record {
         before = omega (arith, run.0);
         end = runs.end;
@@ -85,7 +83,7 @@ run_read words cursor place count runs none more is_place is_count =
 -- after a word of a run was read
 pub word_read : (words : List ℕ) (cursor : Cursor) (word : ℕ) → IsOnRuns words cursor → 0 < cursor.left → word ≡ get_or words cursor.next 0
     → (let after : Cursor = record { next = cursor.next + 1; end = cursor.end; target = cursor.target + 1; left = cursor.left - 1 } in
-      IsOnRuns words after × (writes_ahead cursor words ≡ record { at = cursor.target; word = word } ∷ writes_ahead after words) × (cursor.target < length words))
+    IsOnRuns words after × (writes_ahead cursor words ≡ record { at = cursor.target; word = word } ∷ writes_ahead after words) × (cursor.target < length words))
 word_read words cursor word runs some is_word =
     let run = run_goes_on words cursor.end cursor.next cursor.target cursor.left some runs.end runs.whole in
     let rest = text_between words (cursor.next + 1) cursor.end in
@@ -93,8 +91,7 @@ word_read words cursor word runs some is_word =
     let ahead : writes_ahead cursor words ≡ record { at = cursor.target; word = word } ∷ after =
     run.2 ∙ ap (λ (w : ℕ). record { at = cursor.target; word = w } ∷ after) (sym is_word) in
     let targets : All (λ (write : WordWrite). write.at < length words) (record { at = cursor.target; word = word } ∷ after) =
-    subst (λ (l : List WordWrite). All (λ (write : WordWrite). write.at < length words) l) ahead runs.targets in
-    (
+    subst (λ (l : List WordWrite). All (λ (write : WordWrite). write.at < length words) l) ahead runs.targets in (
       record {
         before = omega (arith, run.0);
         end = runs.end;

@@ -79,8 +79,8 @@ made_again writes k words all =
     let then : AllWithin (length (made (take k writes) words)) writes = subst (λ (n : ℕ). AllWithin n writes) (sym len) all in
     ext_get_or 0 (made writes (made (take k writes) words)) (made writes words) (length-made writes (made (take k writes) words) ∙ len ∙ sym (length-made writes words))
     (λ at h.
-      get_or-made writes (made (take k writes) words) at then ∙ ap (word_after writes at) (get_or-made (take k writes) words at some)
-      ∙ word_after_again writes k at (get_or words at 0) ∙ sym (get_or-made writes words at all))
+    get_or-made writes (made (take k writes) words) at then ∙ ap (word_after writes at) (get_or-made (take k writes) words at some)
+    ∙ word_after_again writes k at (get_or words at 0) ∙ sym (get_or-made writes words at all))
 
 -- a part of the words stays where no write goes into it
 part_set : (words : List ℕ) (start n at word : ℕ) → (at < start) ⊎ (start + n ≤ at) → take n (drop start (set words at word)) ≡ take n (drop start words)

@@ -3,7 +3,7 @@ ghost use Rattle.std.specs.Prelude.{◌≡◌, ◌==◌, length, true, not, is_o
 ghost use Rattle.uw_outside.specs.Faults.{HasCause};
 ghost use Rattle.uw_words.specs.Plans.{region};
 ghost use Rattle.uw_intent.specs.Stores.{numbered, AllMade, SomeMade};
-ghost use Rattle.uw_intent.specs.RedoRecord.{IsFrame, IsIntact, repairs};
+ghost use Rattle.uw_intent.specs.RedoRecord.{IsFrame, IsIntact, applied, repairs};
 
 use crate::cursor::Cursor;
 use crate::{Frame, WordWrite};
@@ -32,10 +32,12 @@ pub fn nth_repair(ram: &Ram, frame: &Frame, n: u64) -> Option<WordWrite>
     for _ in 1..n {
         cursor.step(ram)?;
     }
-    Some(cursor.step(ram).unwrap_or(WordWrite {
-        at: frame.gate,
-        word: 0,
-    }))
+    Some(
+        cursor.step(ram).unwrap_or(WordWrite {
+            at: frame.gate,
+            word: 0,
+        }),
+    )
 }
 
 /// Makes the writes that are left one after the other, all of them or as many as the life lets through. Takes no memory.
@@ -47,6 +49,8 @@ pub fn recover<L: Life>(ram: &mut Ram, frame: &Frame, life: &mut L) -> Result<()
         (L.allowances life.old) (L.allowances life.new)) }
     ensures part { OnErr result (SomeMade (repairs frame.now ram.old) ram.old ram.new
         (L.allowances life.old) (L.allowances life.new)) }
+    ensures intact { IsIntact frame.now ram.new }
+    ensures same { applied frame.now ram.new ≡ applied frame.now ram.old }
     ensures alive { L.alive life.new ≡ is_ok result }
     ensures cause { HasCause (L.deaths life.old) (L.deaths life.new) (not (is_ok result)) }
 {

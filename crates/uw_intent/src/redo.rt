@@ -3,7 +3,7 @@ ghost use Rattle.std.specs.Prelude.{◌≡◌, ◌+◌, ◌-◌, ◌*◌, ◌^�
 ghost use Rattle.uw_outside.specs.Faults.{HasCause};
 ghost use Rattle.uw_words.specs.Plans.{region};
 ghost use Rattle.uw_intent.specs.Stores.{numbered, AllMade, SomeMade};
-ghost use Rattle.uw_intent.specs.RedoRecord.{IsFrame, IsFit, commit_writes, runs_of};
+ghost use Rattle.uw_intent.specs.RedoRecord.{IsFrame, IsFit, IsIntact, commit_writes, runs_of};
 
 use crate::{Frame, WordWrite};
 use uw_outside::{Died, Life};
@@ -80,6 +80,7 @@ pub fn commit<L: Life>(
         (L.allowances life.old) (L.allowances life.new)) }
     ensures part { OnErr result (SomeMade (commit_writes frame.now plan.now.writes) ram.old ram.new
         (L.allowances life.old) (L.allowances life.new)) }
+    ensures intact { IsIntact frame.now ram.new }
     ensures alive { L.alive life.new ≡ is_ok result }
     ensures cause { HasCause (L.deaths life.old) (L.deaths life.new) (not (is_ok result)) }
 {

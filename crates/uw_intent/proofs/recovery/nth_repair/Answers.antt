@@ -13,7 +13,7 @@ returns-in_err-step c =
     let end = drop_end (run_repairs frame ram) (c.loop.counter - 1) (c.loop.invariant.ahead ∙ c.in_err-step.ensures.none) in
     rw c.from_residual.ensures
     (rw (repairs_open frame ram gate)
-      (numbered_past (run_repairs frame ram ++ closing frame ∷ []) c.args.n (omega (arith, end, length_more (run_repairs frame ram) (closing frame)))))
+    (numbered_past (run_repairs frame ram ++ closing frame ∷ []) c.args.n (omega (arith, end, length_more (run_repairs frame ram) (closing frame)))))
 
 pub loop-preserved : goal.loop-preserved
 loop-preserved c =
@@ -36,5 +36,5 @@ returns c =
     let at : c.loop.counter ≡ c.args.n = omega arith in
     rw (repairs_open frame ram gate)
     (rw c.unwrap_or.ensures
-      (number_ahead (run_repairs frame ram) (writes_ahead c.loop.cursor ram) (writes_ahead c.step-2.new.self ram) (closing frame) c.args.n c.step-2.result
-        (omega arith) (omega (arith, at, c.loop.invariant.within)) (ap (λ (n : ℕ). drop (n - 1) (run_repairs frame ram)) (sym at) ∙ c.loop.invariant.ahead) c.step-2.ensures.some c.step-2.ensures.none))
+    (number_ahead (run_repairs frame ram) (writes_ahead c.loop.cursor ram) (writes_ahead c.step-2.new.self ram) (closing frame) c.args.n c.step-2.result
+    (omega arith) (omega (arith, at, c.loop.invariant.within)) (ap (λ (n : ℕ). drop (n - 1) (run_repairs frame ram)) (sym at) ∙ c.loop.invariant.ahead) c.step-2.ensures.some c.step-2.ensures.none))

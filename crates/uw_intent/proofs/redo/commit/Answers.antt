@@ -1,10 +1,11 @@
-use Rattle.std.proofs.Common.{◌≡◌, Bool, take, ℕ, ◌+◌, ◌-◌, ◌<◌, false, length, Some, ap, refl, ◌∙◌, subst, arith}
+use Rattle.std.proofs.Common.{sym, ◌≡◌, Bool, take, ℕ, ◌+◌, ◌-◌, ◌<◌, false, length, Some, ap, refl, ◌∙◌, subst, arith}
 use Rattle.std.specs.List.{slice_get}
 use Rattle.std.proofs.lemmas.List.Elements.{All-get_or}
 use Rattle.std.proofs.lemmas.Option.{slice_get_within, get_or_from_slice_get}
 use Rattle.uw_outside.specs.Lives.{Allows}
 use Rattle.uw_intent.specs.declared.frame.WordWrite.{WordWrite}
-use Rattle.uw_intent.specs.RedoRecord.{commit_writes}
+use Rattle.uw_intent.specs.RedoRecord.{commit_writes, IsIntact}
+use Rattle.uw_intent.proofs.Commits.{keeps_intact}
 use Rattle.uw_intent.proofs.Listed.{numbered_some, numbered_none, commit_within, length-commit_writes, some}
 use Rattle.uw_intent.proofs.Progress.{still_alive, same_deaths, SoFar, length-made, one_more, no_more, all_made}
 use Rattle.uw_intent.proofs.redo.commit.Goals as goal
@@ -61,8 +62,8 @@ loop-write-preserved g c =
       so_far = subst (λ (n : ℕ). SoFar writes c.args.ram.now c.store.new.self (g.L.Life.allowances c.args.life.now) (g.L.Life.allowances c.store.new.life) n) count more;
       alive = still_alive (g.L.Life.alive c.loop-write.life) (g.L.Life.alive c.store.new.life) c.loop-write.invariant.alive c.in_ok-store.ensures.alive;
       deaths =
-        same_deaths (g.L.Life.alive c.loop-write.life) (g.L.Life.deaths c.args.life.now) (g.L.Life.deaths c.loop-write.life) (g.L.Life.deaths c.store.new.life)
-        c.loop-write.invariant.alive c.in_ok-store.ensures.cause c.loop-write.invariant.deaths;
+          same_deaths (g.L.Life.alive c.loop-write.life) (g.L.Life.deaths c.args.life.now) (g.L.Life.deaths c.loop-write.life) (g.L.Life.deaths c.store.new.life)
+          c.loop-write.invariant.alive c.in_ok-store.ensures.cause c.loop-write.invariant.deaths;
     }
 
 pub returns-clause-all : goal.returns-clause-all
@@ -70,3 +71,15 @@ returns-clause-all g c =
     let writes = commit_writes c.args.frame.now c.args.plan.now.writes in
     all_made writes c.args.ram.now (g.L.Life.allowances c.args.life.now) c.loop-write.ram (g.L.Life.allowances c.loop-write.life) (c.loop-write.n - 1) c.loop-write.invariant.so_far
     (numbered_none writes c.loop-write.n c.loop-write.invariant.first c.in_default.ensures)
+
+pub returns-in_err-store-clause-intact : goal.returns-in_err-store-clause-intact
+returns-in_err-store-clause-intact g c =
+    let frame = c.args.frame.now in
+    subst (IsIntact frame) (sym (c.in_err-store.ensures.refused ∙ c.loop-write.invariant.so_far.words))
+    (keeps_intact frame c.args.ram.now c.args.plan.now.writes (c.loop-write.n - 1) c.requires.frame c.requires.idle c.requires.fit)
+
+pub returns-clause-intact : goal.returns-clause-intact
+returns-clause-intact g c =
+    let frame = c.args.frame.now in
+    subst (IsIntact frame) (sym c.loop-write.invariant.so_far.words)
+    (keeps_intact frame c.args.ram.now c.args.plan.now.writes (c.loop-write.n - 1) c.requires.frame c.requires.idle c.requires.fit)
