@@ -43,8 +43,11 @@ pub(crate) fn empty(slots: &mut Vec<u64>, len: usize)
     ensures empty { slots.new.items ≡ replicate len 0 }
     ensures capacity { vec_capacity slots.old ≤ vec_capacity slots.new }
 {
-    slots.clear();
-    for _ in 0..len {
+    slots.truncate(len);
+    for slot in slots.iter_mut() {
+        *slot = 0;
+    }
+    for _ in slots.len()..len {
         let _ = slots.push(0);
     }
 }
