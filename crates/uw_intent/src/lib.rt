@@ -1,0 +1,15 @@
+//! The redo record of a region: planned words are first laid into it and then copied to their places, so that whoever
+//! comes after a death, at whatever word write, finds the old words or finishes the new ones.
+#![tactic(auto)]
+
+mod cursor;
+mod frame;
+pub mod laws;
+mod recovery;
+mod redo;
+#[cfg(test)]
+mod tests;
+
+pub use frame::{Frame, WordWrite};
+pub use recovery::{is_pending, nth_repair, recover};
+pub use redo::{commit, nth_write};

@@ -1,0 +1,14 @@
+//! Words of a region: memory whose words are stored one by one as long as a life lets them, and planned words that are
+//! read in place of the region's.
+#![tactic(auto)]
+
+mod overlay;
+mod ram;
+mod shape;
+mod slots;
+#[cfg(test)]
+mod tests;
+
+pub use overlay::Overlay;
+pub use ram::Ram;
+pub use shape::Shape;
