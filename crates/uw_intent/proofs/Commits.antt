@@ -8,8 +8,8 @@ use Rattle.std.proofs.lemmas.List.Elements.{All-cons, All-nil, All-take, All-app
 use Rattle.uw_words.specs.Plans.{region, planned, through, HasDistinctPlaces}
 use Rattle.uw_intent.specs.declared.frame.WordWrite.{WordWrite}
 use Rattle.uw_intent.specs.declared.frame.Frame.{Frame}
-use Rattle.uw_intent.specs.Stores.{made}
-use Rattle.uw_intent.specs.RedoRecord.{IsFrame, IsBeyond, IsTarget, IsWhole, IsRecord, IsIntact, IsFit, StandsAs, run_writes, text_of, laid, runs_of, copies, commit_writes, closing, repairs, applied}
+use Rattle.uw_intent.specs.Stores.{words_after}
+use Rattle.uw_intent.specs.RedoRecord.{IsFrame, IsBeyond, IsTarget, IsWholeText, IsRecord, IsIntact, FitsRecord, StandsAs, run_writes, record_text, laid, runs_of, copies, commit_writes, closing, repairs, applied}
 use Rattle.uw_intent.proofs.Listed.{length-runs_of, length-laid, commit_writes-some, commit_within}
 use Rattle.uw_intent.proofs.Progress.{length-made, made-append}
 use Rattle.uw_intent.proofs.Repairs.{run_repairs, repairs_closed}
@@ -18,7 +18,7 @@ use Rattle.uw_intent.proofs.Recoveries.{all_weaker, all_intact, all_applied, all
 
 -- what the runs of a plan say
 
-pub whole-runs_of : (plan : List (ℕ × ℕ)) → IsWhole 0 (runs_of plan)
+pub whole-runs_of : (plan : List (ℕ × ℕ)) → IsWholeText 0 (runs_of plan)
 whole-runs_of [] = tt
 whole-runs_of (p ∷ plan) = whole-runs_of plan
 
@@ -35,11 +35,11 @@ laid_outside at (word ∷ words) =
     All-cons P record { at = at; word = word } (laid (at + 1) words) (omega arith, omega arith)
     (all_weaker (λ (w : WordWrite). (at + 1 ≤ w.at) × (w.at < at + 1 + length words)) P (laid (at + 1) words) (λ w within. (omega arith, omega arith)) (laid_outside (at + 1) words))
 
-pub laid_text : (at : ℕ) (text words : List ℕ) → at + length text ≤ length words → take (length text) (drop at (made (laid at text) words)) ≡ text
+pub laid_text : (at : ℕ) (text words : List ℕ) → at + length text ≤ length words → take (length text) (drop at (words_after (laid at text) words)) ≡ text
 laid_text at [] words within = refl
 laid_text at (word ∷ text) words within =
     let base = set words at word in
-    let after = made (laid (at + 1) text) base in
+    let after = words_after (laid (at + 1) text) base in
     let len_base : length base ≡ length words = length-set words at word in
     let len : length after ≡ length words = length-made (laid (at + 1) text) base ∙ len_base in
     let inside : AllWithin (length base) (laid (at + 1) text) =
@@ -95,7 +95,7 @@ copies_unplanned (p ∷ plan) at none = elim (cases_eq p.0 at) [
       All-cons (λ (w : WordWrite). w.at ≢ at) record { at = p.0; word = p.1 } (copies plan) other (copies_unplanned plan at (sym is ∙ none))
 ]
 
-module _ (frame : Frame) (words : List ℕ) (plan : List (ℕ × ℕ)) (is : IsFrame frame (length words)) (idle : region words frame.gate ≡ 0) (fit : IsFit frame (length words) plan) where
+module _ (frame : Frame) (words : List ℕ) (plan : List (ℕ × ℕ)) (is : IsFrame frame (length words)) (idle : region words frame.gate ≡ 0) (fit : FitsRecord frame (length words) plan) where
   abbrev opening : WordWrite
   opening = record { at = frame.gate; word = 1 }
 
@@ -147,23 +147,23 @@ module _ (frame : Frame) (words : List ℕ) (plan : List (ℕ × ℕ)) (is : IsF
   length-record_laid = omega (arith, length-append (laid frame.start (runs_of plan)) (using ∷ []), length-laid frame.start (runs_of plan), length-runs_of plan)
 
   -- a place that the commit does not write to before the gate opens
-  before_gate : (k at : ℕ) → AllAway at record_laid → region (made (take k record_laid) words) at ≡ region words at
+  before_gate : (k at : ℕ) → AllAway at record_laid → region (words_after (take k record_laid) words) at ≡ region words at
   before_gate k at away =
       get_or-made (take k record_laid) words at (All-take (λ (w : WordWrite). w.at < length words) k record_laid laid_within)
       ∙ word_after_away (take k record_laid) at (get_or words at 0) (All-take (λ (w : WordWrite). w.at ≢ at) k record_laid away)
 
   -- the words when the gate has opened
   abbrev opened : List ℕ
-  opened = set (made record_laid words) frame.gate 1
+  opened = set (words_after record_laid words) frame.gate 1
 
   length-opened : length opened ≡ length words
-  length-opened = length-set (made record_laid words) frame.gate 1 ∙ length-made record_laid words
+  length-opened = length-set (words_after record_laid words) frame.gate 1 ∙ length-made record_laid words
 
   opened_gate : region opened frame.gate ≡ 1
-  opened_gate = get_or-set_same (made record_laid words) frame.gate 1 0 (omega (arith, length-made record_laid words, gate_within))
+  opened_gate = get_or-set_same (words_after record_laid words) frame.gate 1 0 (omega (arith, length-made record_laid words, gate_within))
 
-  opened_other : (at : ℕ) → at ≢ frame.gate → region opened at ≡ region (made record_laid words) at
-  opened_other at other = get_or-set_other (made record_laid words) frame.gate at 1 0 other
+  opened_other : (at : ℕ) → at ≢ frame.gate → region opened at ≡ region (words_after record_laid words) at
+  opened_other at other = get_or-set_other (words_after record_laid words) frame.gate at 1 0 other
 
   opened_beyond : (at : ℕ) → IsBeyond frame at → region opened at ≡ region words at
   opened_beyond at beyond =
@@ -172,18 +172,18 @@ module _ (frame : Frame) (words : List ℕ) (plan : List (ℕ × ℕ)) (is : IsF
 
   opened_used : region opened frame.used ≡ 3 * length plan
   opened_used =
-      let base = made (laid frame.start (runs_of plan)) words in
+      let base = words_after (laid frame.start (runs_of plan)) words in
       opened_other frame.used (λ same. omega (arith, same, is.gate, is.used))
       ∙ ap (λ (l : List ℕ). region l frame.used) (made-append (laid frame.start (runs_of plan)) (using ∷ []) words)
       ∙ get_or-set_same base frame.used (3 * length plan) 0 (omega (arith, length-made (laid frame.start (runs_of plan)) words, used_within))
 
-  opened_text : text_of frame opened ≡ runs_of plan
+  opened_text : record_text frame opened ≡ runs_of plan
   opened_text =
       let n = length (runs_of plan) in
-      let base = made (laid frame.start (runs_of plan)) words in
+      let base = words_after (laid frame.start (runs_of plan)) words in
       let late : List WordWrite = using ∷ opening ∷ [] in
       let Aside : WordWrite → Type 0 = λ w. (w.at < frame.start) ⊎ (frame.start + n ≤ w.at) in
-      let same : opened ≡ made late base = ap (λ (l : List ℕ). set l frame.gate 1) (made-append (laid frame.start (runs_of plan)) (using ∷ []) words) in
+      let same : opened ≡ words_after late base = ap (λ (l : List ℕ). set l frame.gate 1) (made-append (laid frame.start (runs_of plan)) (using ∷ []) words) in
       let aside : All Aside late = All-cons Aside using (opening ∷ []) (inl (omega (arith, is.used, is.start))) (All-cons Aside opening [] (inl (omega (arith, is.gate, is.start))) (All-nil Aside)) in
       ap (λ (m : ℕ). take m (drop frame.start opened)) (opened_used ∙ sym (length-runs_of plan))
       ∙ ap (λ (l : List ℕ). take n (drop frame.start l)) same
@@ -207,7 +207,7 @@ module _ (frame : Frame) (words : List ℕ) (plan : List (ℕ × ℕ)) (is : IsF
   opened_whole : IsRecord frame opened
   opened_whole = record {
     within = omega (arith, opened_used, fit.room);
-    whole = subst (IsWhole 0) (sym opened_text) (whole-runs_of plan);
+    whole = subst (IsWholeText 0) (sym opened_text) (whole-runs_of plan);
     targets =
         subst (λ (n : ℕ). All (λ (w : WordWrite). IsTarget frame n w.at) (run_repairs frame opened)) (sym length-opened)
         (subst (All (λ (w : WordWrite). IsTarget frame (length words) w.at)) (sym opened_runs) copies_targets);
@@ -223,7 +223,7 @@ module _ (frame : Frame) (words : List ℕ) (plan : List (ℕ × ℕ)) (is : IsF
       (All-cons (λ (w : WordWrite). w.at < length words) (closing frame) [] gate_within (All-nil (λ (w : WordWrite). w.at < length words))))
 
   -- after all copies a reader sees the planned words
-  all_copied : HasDistinctPlaces plan → (at : ℕ) → IsBeyond frame at → region (made copied opened) at ≡ through plan (region words) at
+  all_copied : HasDistinctPlaces plan → (at : ℕ) → IsBeyond frame at → region (words_after copied opened) at ≡ through plan (region words) at
   all_copied distinct at beyond =
       let closed : AllAway at (closing frame ∷ []) = All-cons (λ (w : WordWrite). w.at ≢ at) (closing frame) [] (λ same. beyond.gate (sym same)) (All-nil (λ (w : WordWrite). w.at ≢ at)) in
       get_or-made copied opened at copied_within
@@ -242,55 +242,55 @@ module _ (frame : Frame) (words : List ℕ) (plan : List (ℕ × ℕ)) (is : IsF
     before : (k : ℕ) → k ≤ 3 * length plan + 1 → take k (commit_writes frame plan) ≡ take k record_laid
     before k h = ap (take k) split ∙ take-append-le k record_laid (opening ∷ copied) (omega (arith, length-record_laid))
 
-    after : (k : ℕ) → 3 * length plan + 1 < k → made (take k (commit_writes frame plan)) words ≡ made (take (k - (3 * length plan + 2)) (repairs frame opened)) opened
+    after : (k : ℕ) → 3 * length plan + 1 < k → words_after (take k (commit_writes frame plan)) words ≡ words_after (take (k - (3 * length plan + 2)) (repairs frame opened)) opened
     after k h =
         let j = k - (3 * length plan + 2) in
         let place : k ≡ length record_laid + suc j = omega (arith, length-record_laid) in
         let taken : take k (commit_writes frame plan) ≡ record_laid ++ (opening ∷ take j copied) =
         ap (take k) split ∙ ap (λ (n : ℕ). take n (record_laid ++ (opening ∷ copied))) place ∙ take-append-add record_laid (opening ∷ copied) (suc j) in
-        ap (λ (l : List WordWrite). made l words) taken
+        ap (λ (l : List WordWrite). words_after l words) taken
         ∙ made-append record_laid (opening ∷ take j copied) words
-        ∙ ap (λ (l : List WordWrite). made (take j l) opened) (sym opened_repairs)
+        ∙ ap (λ (l : List WordWrite). words_after (take j l) opened) (sym opened_repairs)
 
-    whole : made (commit_writes frame plan) words ≡ made (repairs frame opened) opened
+    whole : words_after (commit_writes frame plan) words ≡ words_after (repairs frame opened) opened
     whole =
-        ap (λ (l : List WordWrite). made l words) split ∙ made-append record_laid (opening ∷ copied) words ∙ ap (λ (l : List WordWrite). made l opened) (sym opened_repairs)
+        ap (λ (l : List WordWrite). words_after l words) split ∙ made-append record_laid (opening ∷ copied) words ∙ ap (λ (l : List WordWrite). words_after l opened) (sym opened_repairs)
 
-    closed_before : (k : ℕ) → region (made (take k record_laid) words) frame.gate ≡ 0
+    closed_before : (k : ℕ) → region (words_after (take k record_laid) words) frame.gate ≡ 0
     closed_before k = before_gate k frame.gate laid_away_gate ∙ idle
 
-    some_intact : (k : ℕ) → IsIntact frame (made (take k (commit_writes frame plan)) words)
+    some_intact : (k : ℕ) → IsIntact frame (words_after (take k (commit_writes frame plan)) words)
     some_intact k = elim (cases_lt (3 * length plan + 1) k) [
       | inl late ↦ subst (IsIntact frame) (sym (after k late)) (all_intact frame opened (k - (3 * length plan + 2)) opened_frame (inr (opened_gate, opened_whole)))
-      | inr early ↦ subst (λ (l : List WordWrite). IsIntact frame (made l words)) (sym (before k early)) (inl (closed_before k))
+      | inr early ↦ subst (λ (l : List WordWrite). IsIntact frame (words_after l words)) (sym (before k early)) (inl (closed_before k))
     ]
 
-    some_old : (k : ℕ) → k ≤ 3 * length plan + 1 → StandsAs frame (made (take k (commit_writes frame plan)) words) (region words)
+    some_old : (k : ℕ) → k ≤ 3 * length plan + 1 → StandsAs frame (words_after (take k (commit_writes frame plan)) words) (region words)
     some_old k early at beyond =
-        let now = made (take k record_laid) words in
-        ap (λ (l : List WordWrite). region (applied frame (made l words)) at) (before k early)
-        ∙ ap (λ (l : List WordWrite). region (made l now) at) (repairs_closed frame now (closed_before k))
+        let now = words_after (take k record_laid) words in
+        ap (λ (l : List WordWrite). region (applied frame (words_after l words)) at) (before k early)
+        ∙ ap (λ (l : List WordWrite). region (words_after l now) at) (repairs_closed frame now (closed_before k))
         ∙ before_gate k at (laid_away at beyond)
 
     some_kept : (k at : ℕ) → k ≤ 3 * length plan + 1 → (at < frame.start) ⊎ (frame.start + frame.room ≤ at) → at ≢ frame.used
-        → region (made (take k (commit_writes frame plan)) words) at ≡ region words at
+        → region (words_after (take k (commit_writes frame plan)) words) at ≡ region words at
     some_kept k at early outside used =
-        ap (λ (l : List WordWrite). region (made l words) at) (before k early) ∙ before_gate k at (away_from_record at outside used)
+        ap (λ (l : List WordWrite). region (words_after l words) at) (before k early) ∙ before_gate k at (away_from_record at outside used)
 
-    some_new : (k : ℕ) → HasDistinctPlaces plan → 3 * length plan + 1 < k → StandsAs frame (made (take k (commit_writes frame plan)) words) (through plan (region words))
+    some_new : (k : ℕ) → HasDistinctPlaces plan → 3 * length plan + 1 < k → StandsAs frame (words_after (take k (commit_writes frame plan)) words) (through plan (region words))
     some_new k distinct late at beyond =
         let j = k - (3 * length plan + 2) in
         ap (λ (l : List ℕ). region (applied frame l) at) (after k late)
         ∙ ap (λ (l : List ℕ). region l at) (all_applied frame opened j opened_frame (inr (opened_gate, opened_whole)))
-        ∙ ap (λ (l : List WordWrite). region (made l opened) at) opened_repairs
+        ∙ ap (λ (l : List WordWrite). region (words_after l opened) at) opened_repairs
         ∙ all_copied distinct at beyond
 
-    some_closed : region (made (commit_writes frame plan) words) frame.gate ≡ 0
+    some_closed : region (words_after (commit_writes frame plan) words) frame.gate ≡ 0
     some_closed = ap (λ (l : List ℕ). region l frame.gate) whole ∙ all_closed frame opened opened_frame (inr (opened_gate, opened_whole))
 
-    some_left : HasDistinctPlaces plan → (at : ℕ) → IsBeyond frame at → region (made (commit_writes frame plan) words) at ≡ through plan (region words) at
+    some_left : HasDistinctPlaces plan → (at : ℕ) → IsBeyond frame at → region (words_after (commit_writes frame plan) words) at ≡ through plan (region words) at
     some_left distinct at beyond =
-        ap (λ (l : List ℕ). region l at) whole ∙ ap (λ (l : List WordWrite). region (made l opened) at) opened_repairs ∙ all_copied distinct at beyond
+        ap (λ (l : List ℕ). region l at) whole ∙ ap (λ (l : List WordWrite). region (words_after l opened) at) opened_repairs ∙ all_copied distinct at beyond
 
     some_away : (at : ℕ) → IsBeyond frame at → planned plan at ≡ None → AllAway at (commit_writes frame plan)
     some_away at beyond none = subst (AllAway at) (sym split)
@@ -301,48 +301,48 @@ module _ (frame : Frame) (words : List ℕ) (plan : List (ℕ × ℕ)) (is : IsF
 
 -- a commit of any plan
 
-nothing_made : (frame : Frame) (words : List ℕ) (k : ℕ) → made (take k (commit_writes frame [])) words ≡ words
-nothing_made frame words k = ap (λ (l : List WordWrite). made l words) (take_all k [] (omega arith))
+nothing_made : (frame : Frame) (words : List ℕ) (k : ℕ) → words_after (take k (commit_writes frame [])) words ≡ words
+nothing_made frame words k = ap (λ (l : List WordWrite). words_after l words) (take_all k [] (omega arith))
 
-pub keeps_intact : (frame : Frame) (words : List ℕ) (plan : List (ℕ × ℕ)) (k : ℕ) → IsFrame frame (length words) → region words frame.gate ≡ 0 → IsFit frame (length words) plan
-    → IsIntact frame (made (take k (commit_writes frame plan)) words)
+pub keeps_intact : (frame : Frame) (words : List ℕ) (plan : List (ℕ × ℕ)) (k : ℕ) → IsFrame frame (length words) → region words frame.gate ≡ 0 → FitsRecord frame (length words) plan
+    → IsIntact frame (words_after (take k (commit_writes frame plan)) words)
 keeps_intact frame words [] k is idle fit = subst (IsIntact frame) (sym (nothing_made frame words k)) (inl idle)
 keeps_intact frame words (p ∷ plan) k is idle fit = some_intact frame words (p ∷ plan) is idle fit (omega arith) k
 
-stands_idle : (frame : Frame) (words : List ℕ) (k : ℕ) → region words frame.gate ≡ 0 → StandsAs frame (made (take k (commit_writes frame [])) words) (region words)
+stands_idle : (frame : Frame) (words : List ℕ) (k : ℕ) → region words frame.gate ≡ 0 → StandsAs frame (words_after (take k (commit_writes frame [])) words) (region words)
 stands_idle frame words k idle at beyond =
-    ap (λ (l : List ℕ). region (applied frame l) at) (nothing_made frame words k) ∙ ap (λ (l : List WordWrite). region (made l words) at) (repairs_closed frame words idle)
+    ap (λ (l : List ℕ). region (applied frame l) at) (nothing_made frame words k) ∙ ap (λ (l : List WordWrite). region (words_after l words) at) (repairs_closed frame words idle)
 
-pub stands_old : (frame : Frame) (words : List ℕ) (plan : List (ℕ × ℕ)) (k : ℕ) → IsFrame frame (length words) → region words frame.gate ≡ 0 → IsFit frame (length words) plan
-    → k ≤ 3 * length plan + 1 → StandsAs frame (made (take k (commit_writes frame plan)) words) (region words)
+pub stands_old : (frame : Frame) (words : List ℕ) (plan : List (ℕ × ℕ)) (k : ℕ) → IsFrame frame (length words) → region words frame.gate ≡ 0 → FitsRecord frame (length words) plan
+    → k ≤ 3 * length plan + 1 → StandsAs frame (words_after (take k (commit_writes frame plan)) words) (region words)
 stands_old frame words [] k is idle fit early = stands_idle frame words k idle
 stands_old frame words (p ∷ plan) k is idle fit early = some_old frame words (p ∷ plan) is idle fit (omega arith) k early
 
-pub keeps_others : (frame : Frame) (words : List ℕ) (plan : List (ℕ × ℕ)) (k : ℕ) → IsFrame frame (length words) → region words frame.gate ≡ 0 → IsFit frame (length words) plan
+pub keeps_others : (frame : Frame) (words : List ℕ) (plan : List (ℕ × ℕ)) (k : ℕ) → IsFrame frame (length words) → region words frame.gate ≡ 0 → FitsRecord frame (length words) plan
     → k ≤ 3 * length plan + 1 → (at : ℕ) → (at < frame.start) ⊎ (frame.start + frame.room ≤ at) → at ≢ frame.used
-    → region (made (take k (commit_writes frame plan)) words) at ≡ region words at
+    → region (words_after (take k (commit_writes frame plan)) words) at ≡ region words at
 keeps_others frame words [] k is idle fit early at outside used = ap (λ (l : List ℕ). region l at) (nothing_made frame words k)
 keeps_others frame words (p ∷ plan) k is idle fit early at outside used = some_kept frame words (p ∷ plan) is idle fit (omega arith) k at early outside used
 
-pub stands_new : (frame : Frame) (words : List ℕ) (plan : List (ℕ × ℕ)) (k : ℕ) → IsFrame frame (length words) → region words frame.gate ≡ 0 → IsFit frame (length words) plan → HasDistinctPlaces plan
-    → 3 * length plan + 1 < k → StandsAs frame (made (take k (commit_writes frame plan)) words) (through plan (region words))
+pub stands_new : (frame : Frame) (words : List ℕ) (plan : List (ℕ × ℕ)) (k : ℕ) → IsFrame frame (length words) → region words frame.gate ≡ 0 → FitsRecord frame (length words) plan → HasDistinctPlaces plan
+    → 3 * length plan + 1 < k → StandsAs frame (words_after (take k (commit_writes frame plan)) words) (through plan (region words))
 stands_new frame words [] k is idle fit distinct late = stands_idle frame words k idle
 stands_new frame words (p ∷ plan) k is idle fit distinct late = some_new frame words (p ∷ plan) is idle fit (omega arith) k distinct late
 
-pub changes_planned : (frame : Frame) (words : List ℕ) (plan : List (ℕ × ℕ)) (k : ℕ) → IsFrame frame (length words) → region words frame.gate ≡ 0 → IsFit frame (length words) plan
-    → (at : ℕ) → IsBeyond frame at → planned plan at ≡ None → region (made (take k (commit_writes frame plan)) words) at ≡ region words at
+pub changes_planned : (frame : Frame) (words : List ℕ) (plan : List (ℕ × ℕ)) (k : ℕ) → IsFrame frame (length words) → region words frame.gate ≡ 0 → FitsRecord frame (length words) plan
+    → (at : ℕ) → IsBeyond frame at → planned plan at ≡ None → region (words_after (take k (commit_writes frame plan)) words) at ≡ region words at
 changes_planned frame words [] k is idle fit at beyond none = ap (λ (l : List ℕ). region l at) (nothing_made frame words k)
 changes_planned frame words (p ∷ plan) k is idle fit at beyond none =
     let writes = commit_writes frame (p ∷ plan) in
     get_or-made (take k writes) words at (All-take (λ (w : WordWrite). w.at < length words) k writes (commit_within frame (length words) (p ∷ plan) is fit))
     ∙ word_after_away (take k writes) at (get_or words at 0) (All-take (λ (w : WordWrite). w.at ≢ at) k writes (some_away frame words (p ∷ plan) is idle fit (omega arith) at beyond none))
 
-pub closes : (frame : Frame) (words : List ℕ) (plan : List (ℕ × ℕ)) → IsFrame frame (length words) → region words frame.gate ≡ 0 → IsFit frame (length words) plan
-    → region (made (commit_writes frame plan) words) frame.gate ≡ 0
+pub closes : (frame : Frame) (words : List ℕ) (plan : List (ℕ × ℕ)) → IsFrame frame (length words) → region words frame.gate ≡ 0 → FitsRecord frame (length words) plan
+    → region (words_after (commit_writes frame plan) words) frame.gate ≡ 0
 closes frame words [] is idle fit = idle
 closes frame words (p ∷ plan) is idle fit = some_closed frame words (p ∷ plan) is idle fit (omega arith)
 
-pub leaves_planned : (frame : Frame) (words : List ℕ) (plan : List (ℕ × ℕ)) → IsFrame frame (length words) → region words frame.gate ≡ 0 → IsFit frame (length words) plan → HasDistinctPlaces plan
-    → (at : ℕ) → IsBeyond frame at → region (made (commit_writes frame plan) words) at ≡ through plan (region words) at
+pub leaves_planned : (frame : Frame) (words : List ℕ) (plan : List (ℕ × ℕ)) → IsFrame frame (length words) → region words frame.gate ≡ 0 → FitsRecord frame (length words) plan → HasDistinctPlaces plan
+    → (at : ℕ) → IsBeyond frame at → region (words_after (commit_writes frame plan) words) at ≡ through plan (region words) at
 leaves_planned frame words [] is idle fit distinct at beyond = refl
 leaves_planned frame words (p ∷ plan) is idle fit distinct at beyond = some_left frame words (p ∷ plan) is idle fit (omega arith) distinct at beyond

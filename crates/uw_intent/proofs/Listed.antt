@@ -7,7 +7,7 @@ use Rattle.std.proofs.lemmas.Option.{slice_get_past}
 use Rattle.uw_intent.specs.declared.frame.WordWrite.{WordWrite}
 use Rattle.uw_intent.specs.declared.frame.Frame.{Frame}
 use Rattle.uw_intent.specs.Stores.{numbered}
-use Rattle.uw_intent.specs.RedoRecord.{laid, runs_of, copies, closing, commit_writes, IsFrame, IsFit, IsTarget}
+use Rattle.uw_intent.specs.RedoRecord.{laid, runs_of, copies, closing, commit_writes, IsFrame, FitsRecord, IsTarget}
 
 pub slice_get-append_left : {X : Type 0} (xs ys : List X) (i : ℕ) → i < length xs → slice_get (xs ++ ys) i ≡ slice_get xs i
 slice_get-append_left [] ys i h = absurd (omega arith)
@@ -153,7 +153,7 @@ copies_within frame len (p ∷ plan) h =
     (copies_within frame len plan (λ k d short. h (suc k) d (omega arith)))
 
 -- every write of a commit goes into the region
-pub commit_within : (frame : Frame) (len : ℕ) (plan : List (ℕ × ℕ)) → IsFrame frame len → IsFit frame len plan → All (λ write. write.at < len) (commit_writes frame plan)
+pub commit_within : (frame : Frame) (len : ℕ) (plan : List (ℕ × ℕ)) → IsFrame frame len → FitsRecord frame len plan → All (λ write. write.at < len) (commit_writes frame plan)
 commit_within frame len [] is fit = All-nil (λ (write : WordWrite). write.at < len)
 commit_within frame len (p ∷ plan) is fit =
     let whole = p ∷ plan in

@@ -7,19 +7,19 @@ use Rattle.std.proofs.lemmas.Option.{get_or_from_slice_get, slice_get_within}
 use Rattle.uw_outside.specs.Faults.{HasCause}
 use Rattle.uw_outside.specs.Lives.{raised, is_spent, Spends, IsSpent, Allows}
 use Rattle.uw_intent.specs.declared.frame.WordWrite.{WordWrite}
-use Rattle.uw_intent.specs.Stores.{made, AllMade, SomeMade}
+use Rattle.uw_intent.specs.Stores.{words_after, AllMade, SomeMade}
 
 -- so many of the writes were made
 pub record SoFar (writes : List WordWrite) (before now : List ℕ) (told left : Option (List ℕ)) (count : ℕ) : Type 0 where
   pub within : count ≤ length writes
-  pub words : now ≡ made (take count writes) before
+  pub words : now ≡ words_after (take count writes) before
   pub spent : Spends told left count
 
-pub made-append : (early late : List WordWrite) (words : List ℕ) → made (early ++ late) words ≡ made late (made early words)
+pub made-append : (early late : List WordWrite) (words : List ℕ) → words_after (early ++ late) words ≡ words_after late (words_after early words)
 made-append [] late words = refl
 made-append (write ∷ early) late words = made-append early late (set words write.at write.word)
 
-pub length-made : (writes : List WordWrite) (words : List ℕ) → length (made writes words) ≡ length words
+pub length-made : (writes : List WordWrite) (words : List ℕ) → length (words_after writes words) ≡ length words
 length-made [] words = refl
 length-made (write ∷ writes) words = length-made writes (set words write.at write.word) ∙ length-set words write.at write.word
 
@@ -51,7 +51,7 @@ module _ (writes : List WordWrite) (before : List ℕ) (told : Option (List ℕ)
     within = omega (arith, slice_get_within writes count write next);
     words =
         stored ∙ ap (λ (words : List ℕ). set words write.at write.word) so_far.words ∙ sym (made-append (take count writes) (write ∷ []) before)
-        ∙ ap (λ (l : List WordWrite). made l before) (sym (take_next writes count write next));
+        ∙ ap (λ (l : List WordWrite). words_after l before) (sym (take_next writes count write next));
     spent = spends_more told left later count so_far.spent counted;
   }
 
@@ -79,7 +79,7 @@ module _ (writes : List WordWrite) (before : List ℕ) (told : Option (List ℕ)
   all_made now left count so_far all =
       let same : count ≡ length writes = omega (arith, so_far.within) in
       record {
-        words = so_far.words ∙ ap (λ (l : List WordWrite). made l before) (take_all count writes all);
+        words = so_far.words ∙ ap (λ (l : List WordWrite). words_after l before) (take_all count writes all);
         spent = subst (Spends told left) same so_far.spent;
       }
 

@@ -7,8 +7,8 @@ use Rattle.std.proofs.lemmas.List.Elements.{All-cons, All-nil, All-take, All-app
 use Rattle.uw_words.specs.Plans.{region}
 use Rattle.uw_intent.specs.declared.frame.WordWrite.{WordWrite}
 use Rattle.uw_intent.specs.declared.frame.Frame.{Frame}
-use Rattle.uw_intent.specs.Stores.{made}
-use Rattle.uw_intent.specs.RedoRecord.{IsFrame, IsTarget, IsWhole, IsRecord, IsIntact, run_writes, text_of, closing, repairs, applied}
+use Rattle.uw_intent.specs.Stores.{words_after}
+use Rattle.uw_intent.specs.RedoRecord.{IsFrame, IsTarget, IsWholeText, IsRecord, IsIntact, run_writes, record_text, closing, repairs, applied}
 use Rattle.uw_intent.proofs.Progress.{length-made}
 use Rattle.uw_intent.proofs.Repairs.{run_repairs, repairs_open, repairs_closed, length_more}
 use Rattle.uw_intent.proofs.Words.{word_after, AllWithin, AllAway, get_or-made, word_after-append, word_after_away, made_again, part_made}
@@ -49,14 +49,14 @@ module _ (frame : Frame) (words : List ℕ) (is : IsFrame frame (length words)) 
   -- while words of runs are written
   module _ (k : ℕ) where
     abbrev partly : List ℕ
-    partly = made (take k runs) words
+    partly = words_after (take k runs) words
 
     stays : (at : ℕ) → AllAway at runs → region partly at ≡ region words at
     stays at away =
         get_or-made (take k runs) words at (All-take (λ (w : WordWrite). w.at < length words) k runs runs_within)
         ∙ word_after_away (take k runs) at (get_or words at 0) (All-take (λ (w : WordWrite). w.at ≢ at) k runs away)
 
-    same_text : text_of frame partly ≡ text_of frame words
+    same_text : record_text frame partly ≡ record_text frame words
     same_text =
         ap (λ (n : ℕ). take n (drop frame.start partly)) (stays frame.used used_away)
         ∙ part_made (take k runs) words frame.start (region words frame.used)
@@ -73,7 +73,7 @@ module _ (frame : Frame) (words : List ℕ) (is : IsFrame frame (length words)) 
     pub partly_whole : IsRecord frame partly
     partly_whole = record {
       within = omega (arith, stays frame.used used_away, whole.within);
-      whole = subst (IsWhole 0) (sym same_text) whole.whole;
+      whole = subst (IsWholeText 0) (sym same_text) whole.whole;
       targets =
           subst (λ (n : ℕ). All (λ (w : WordWrite). IsTarget frame n w.at) (run_repairs frame partly)) (sym (length-made (take k runs) words))
           (subst (All (λ (w : WordWrite). IsTarget frame (length words) w.at)) (sym same_runs) whole.targets);
@@ -86,7 +86,7 @@ module _ (frame : Frame) (words : List ℕ) (is : IsFrame frame (length words)) 
     partly_repairs = repairs_open frame partly partly_open ∙ ap (λ (l : List WordWrite). l ++ closing frame ∷ []) same_runs
 
   -- after the gate is closed
-  pub closed_gate : region (made all words) frame.gate ≡ 0
+  pub closed_gate : region (words_after all words) frame.gate ≡ 0
   closed_gate =
       get_or-made all words frame.gate all_within
       ∙ word_after-append runs (closing frame ∷ []) frame.gate (get_or words frame.gate 0)
@@ -102,51 +102,51 @@ module _ (frame : Frame) (words : List ℕ) (is : IsFrame frame (length words)) 
     | inr before ↦ inl (take-append-le k runs (closing frame ∷ []) before)
   ]
 
-  pub recovery_intact : (k : ℕ) → IsIntact frame (made (take k all) words)
+  pub recovery_intact : (k : ℕ) → IsIntact frame (words_after (take k all) words)
   recovery_intact k = ⊎_elim
-      (λ before. inr (subst (λ (l : List WordWrite). (region (made l words) frame.gate ≡ 1) × IsRecord frame (made l words)) (sym before) (partly_gate k, partly_whole k)))
-      (λ over. inl (ap (λ (l : List WordWrite). region (made l words) frame.gate) over ∙ closed_gate))
+      (λ before. inr (subst (λ (l : List WordWrite). (region (words_after l words) frame.gate ≡ 1) × IsRecord frame (words_after l words)) (sym before) (partly_gate k, partly_whole k)))
+      (λ over. inl (ap (λ (l : List WordWrite). region (words_after l words) frame.gate) over ∙ closed_gate))
       (take_repairs k)
 
-  pub recovery_applied : (k : ℕ) → applied frame (made (take k all) words) ≡ made all words
+  pub recovery_applied : (k : ℕ) → applied frame (words_after (take k all) words) ≡ words_after all words
   recovery_applied k = ⊎_elim
       (λ before.
-      let again : made all (made (take k all) words) ≡ made all words = made_again all k words all_within in
-      ap (λ (l : List WordWrite). made (repairs frame (made l words)) (made l words)) before
-      ∙ ap (λ (l : List WordWrite). made l (made (take k runs) words)) (partly_repairs k)
-      ∙ ap (λ (l : List WordWrite). made all (made l words)) (sym before) ∙ again)
+      let again : words_after all (words_after (take k all) words) ≡ words_after all words = made_again all k words all_within in
+      ap (λ (l : List WordWrite). words_after (repairs frame (words_after l words)) (words_after l words)) before
+      ∙ ap (λ (l : List WordWrite). words_after l (words_after (take k runs) words)) (partly_repairs k)
+      ∙ ap (λ (l : List WordWrite). words_after all (words_after l words)) (sym before) ∙ again)
       (λ over.
-      let none : repairs frame (made all words) ≡ [] = repairs_closed frame (made all words) closed_gate in
-      ap (λ (l : List WordWrite). made (repairs frame (made l words)) (made l words)) over
-      ∙ ap (λ (l : List WordWrite). made l (made all words)) none)
+      let none : repairs frame (words_after all words) ≡ [] = repairs_closed frame (words_after all words) closed_gate in
+      ap (λ (l : List WordWrite). words_after (repairs frame (words_after l words)) (words_after l words)) over
+      ∙ ap (λ (l : List WordWrite). words_after l (words_after all words)) none)
       (take_repairs k)
 
 -- a recovery where the gate is closed has no write
-none_made : (frame : Frame) (words : List ℕ) (k : ℕ) → region words frame.gate ≡ 0 → made (take k (repairs frame words)) words ≡ words
+none_made : (frame : Frame) (words : List ℕ) (k : ℕ) → region words frame.gate ≡ 0 → words_after (take k (repairs frame words)) words ≡ words
 none_made frame words k closed =
-    ap (λ (l : List WordWrite). made (take k l) words) (repairs_closed frame words closed) ∙ ap (λ (l : List WordWrite). made l words) (take_all k [] (omega arith))
+    ap (λ (l : List WordWrite). words_after (take k l) words) (repairs_closed frame words closed) ∙ ap (λ (l : List WordWrite). words_after l words) (take_all k [] (omega arith))
 
-pub all_intact : (frame : Frame) (words : List ℕ) (k : ℕ) → IsFrame frame (length words) → IsIntact frame words → IsIntact frame (made (take k (repairs frame words)) words)
+pub all_intact : (frame : Frame) (words : List ℕ) (k : ℕ) → IsFrame frame (length words) → IsIntact frame words → IsIntact frame (words_after (take k (repairs frame words)) words)
 all_intact frame words k is (inl closed) = subst (IsIntact frame) (sym (none_made frame words k closed)) (inl closed)
 all_intact frame words k is (inr whole) =
-    subst (λ (l : List WordWrite). IsIntact frame (made (take k l) words)) (sym (repairs_are frame words is whole.0 whole.1)) (recovery_intact frame words is whole.0 whole.1 k)
+    subst (λ (l : List WordWrite). IsIntact frame (words_after (take k l) words)) (sym (repairs_are frame words is whole.0 whole.1)) (recovery_intact frame words is whole.0 whole.1 k)
 
-pub all_applied : (frame : Frame) (words : List ℕ) (k : ℕ) → IsFrame frame (length words) → IsIntact frame words → applied frame (made (take k (repairs frame words)) words) ≡ applied frame words
+pub all_applied : (frame : Frame) (words : List ℕ) (k : ℕ) → IsFrame frame (length words) → IsIntact frame words → applied frame (words_after (take k (repairs frame words)) words) ≡ applied frame words
 all_applied frame words k is (inl closed) = ap (applied frame) (none_made frame words k closed)
 all_applied frame words k is (inr whole) =
     let are = repairs_are frame words is whole.0 whole.1 in
-    ap (λ (l : List WordWrite). applied frame (made (take k l) words)) are ∙ recovery_applied frame words is whole.0 whole.1 k ∙ ap (λ (l : List WordWrite). made l words) (sym are)
+    ap (λ (l : List WordWrite). applied frame (words_after (take k l) words)) are ∙ recovery_applied frame words is whole.0 whole.1 k ∙ ap (λ (l : List WordWrite). words_after l words) (sym are)
 
-pub all_closed : (frame : Frame) (words : List ℕ) → IsFrame frame (length words) → IsIntact frame words → region (made (repairs frame words) words) frame.gate ≡ 0
-all_closed frame words is (inl closed) = ap (λ (l : List WordWrite). region (made l words) frame.gate) (repairs_closed frame words closed) ∙ closed
+pub all_closed : (frame : Frame) (words : List ℕ) → IsFrame frame (length words) → IsIntact frame words → region (words_after (repairs frame words) words) frame.gate ≡ 0
+all_closed frame words is (inl closed) = ap (λ (l : List WordWrite). region (words_after l words) frame.gate) (repairs_closed frame words closed) ∙ closed
 all_closed frame words is (inr whole) =
-    ap (λ (l : List WordWrite). region (made l words) frame.gate) (repairs_are frame words is whole.0 whole.1) ∙ closed_gate frame words is whole.0 whole.1
+    ap (λ (l : List WordWrite). region (words_after l words) frame.gate) (repairs_are frame words is whole.0 whole.1) ∙ closed_gate frame words is whole.0 whole.1
 
 -- after the first writes of a recovery whose gate is open
 module _ (frame : Frame) (old now : List ℕ) (k : ℕ) (is : IsFrame frame (length old)) (intact : IsIntact frame old) (gate : region old frame.gate ≢ 0)
-    (words : now ≡ made (take k (run_repairs frame old ++ closing frame ∷ [])) old) where
-  by_repairs : now ≡ made (take k (repairs frame old)) old
-  by_repairs = words ∙ ap (λ (l : List WordWrite). made (take k l) old) (sym (repairs_open frame old gate))
+    (words : now ≡ words_after (take k (run_repairs frame old ++ closing frame ∷ [])) old) where
+  by_repairs : now ≡ words_after (take k (repairs frame old)) old
+  by_repairs = words ∙ ap (λ (l : List WordWrite). words_after (take k l) old) (sym (repairs_open frame old gate))
 
   pub left_intact : IsIntact frame now
   left_intact = subst (IsIntact frame) (sym by_repairs) (all_intact frame old k is intact)

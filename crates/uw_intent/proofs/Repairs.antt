@@ -12,14 +12,14 @@ use Rattle.uw_intent.specs.declared.frame.WordWrite.{WordWrite}
 use Rattle.uw_intent.specs.declared.frame.Frame.{Frame}
 use Rattle.uw_intent.specs.declared.cursor.Cursor.{Cursor}
 use Rattle.uw_intent.specs.Stores.{numbered, AllMade, SomeMade}
-use Rattle.uw_intent.specs.RedoRecord.{run_writes, IsWhole, text_of, closing, repairs, IsRecord, IsIntact, IsTarget}
-use Rattle.uw_intent.specs.Cursors.{text_between, writes_ahead, IsOnRuns}
+use Rattle.uw_intent.specs.RedoRecord.{run_writes, IsWholeText, record_text, closing, repairs, IsRecord, IsIntact, IsTarget}
+use Rattle.uw_intent.specs.CursorSteps.{text_between, writes_ahead, IsOnRuns}
 use Rattle.uw_intent.proofs.Listed.{slice_get-append_left, slice_get-append_right, numbered_suc}
 use Rattle.uw_intent.proofs.Progress.{SoFar, none_made, one_more, no_more, all_made, length-made}
 
 -- the writes of the record's runs
 abbrev pub run_repairs : Frame → List ℕ → List WordWrite
-run_repairs frame words = run_writes 0 0 (text_of frame words)
+run_repairs frame words = run_writes 0 0 (record_text frame words)
 
 pub repairs_open : (frame : Frame) (words : List ℕ) → region words frame.gate ≢ 0 → repairs frame words ≡ run_repairs frame words ++ closing frame ∷ []
 repairs_open frame words gate = grind (arith, nat_tests)
@@ -145,7 +145,7 @@ module _ (frame : Frame) (old : List ℕ) (told : Option (List ℕ)) where
             before = runs.before;
             end = omega (arith, runs.end);
             small = omega (arith, runs.small);
-            whole = subst (IsWhole moved.left) (sym text) runs.whole;
+            whole = subst (IsWholeText moved.left) (sym text) runs.whole;
             targets =
                 subst (λ (n : ℕ). All (λ (w : WordWrite). w.at < n) (writes_ahead moved after)) (sym len)
                 (subst (All (λ (w : WordWrite). w.at < length now)) (sym ahead) runs.targets);

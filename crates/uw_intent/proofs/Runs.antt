@@ -4,8 +4,8 @@ use Rattle.std.proofs.lemmas.Bool.{cases_lt}
 use Rattle.std.proofs.lemmas.List.{drop_more}
 use Rattle.uw_intent.specs.declared.frame.WordWrite.{WordWrite}
 use Rattle.uw_intent.specs.declared.cursor.Cursor.{Cursor}
-use Rattle.uw_intent.specs.RedoRecord.{run_writes, IsWhole}
-use Rattle.uw_intent.specs.Cursors.{text_between, writes_ahead, IsOnRuns}
+use Rattle.uw_intent.specs.RedoRecord.{run_writes, IsWholeText}
+use Rattle.uw_intent.specs.CursorSteps.{text_between, writes_ahead, IsOnRuns}
 
 module _ (words : List ℕ) (end : ℕ) where
   abbrev text : ℕ → List ℕ
@@ -20,29 +20,29 @@ module _ (words : List ℕ) (end : ℕ) where
       ap (λ (n : ℕ). take n (drop next words)) (let e : end - next ≡ suc (end - (next + 1)) = omega arith in e)
       ∙ ap (take (suc (end - (next + 1)))) more
 
-  whole_run : (place count : ℕ) (rest : List ℕ) → IsWhole 0 (place ∷ count ∷ rest) → (0 < count) × IsWhole count rest
+  whole_run : (place count : ℕ) (rest : List ℕ) → IsWholeText 0 (place ∷ count ∷ rest) → (0 < count) × IsWholeText count rest
   whole_run place zero rest whole = absurd whole
   whole_run place (suc count) rest whole = (omega arith, whole)
 
   -- a run begins
-  pub run_begins : (next target : ℕ) → next < end → end ≤ length words → IsWhole 0 (text next)
-      → (next + 1 < end) × (0 < get_or words (next + 1) 0) × IsWhole (get_or words (next + 1) 0) (text (next + 2))
+  pub run_begins : (next target : ℕ) → next < end → end ≤ length words → IsWholeText 0 (text next)
+      → (next + 1 < end) × (0 < get_or words (next + 1) 0) × IsWholeText (get_or words (next + 1) 0) (text (next + 2))
       × (run_writes target 0 (text next) ≡ run_writes (get_or words next 0) (get_or words (next + 1) 0) (text (next + 2)))
   run_begins next target h within whole = elim (cases_lt (next + 1) end) [
     | inl more ↦
         let two : text next ≡ get_or words next 0 ∷ get_or words (next + 1) 0 ∷ text (next + 2) =
         text_more next h within
         ∙ ap (λ (l : List ℕ). get_or words next 0 ∷ l) (text_more (next + 1) more within ∙ ap (λ (n : ℕ). get_or words (next + 1) 0 ∷ text n) (let e : next + 1 + 1 ≡ next + 2 = omega arith in e)) in
-        let run = whole_run (get_or words next 0) (get_or words (next + 1) 0) (text (next + 2)) (subst (IsWhole 0) two whole) in
+        let run = whole_run (get_or words next 0) (get_or words (next + 1) 0) (text (next + 2)) (subst (IsWholeText 0) two whole) in
         (more, run.0, run.1, ap (run_writes target 0) two)
     | inr past ↦
         let one : text next ≡ get_or words next 0 ∷ [] = text_more next h within ∙ ap (λ (l : List ℕ). get_or words next 0 ∷ l) (text_none (next + 1) past) in
-        absurd (subst (IsWhole 0) one whole)
+        absurd (subst (IsWholeText 0) one whole)
   ]
 
   -- a word of a run
-  pub run_goes_on : (next target left : ℕ) → 0 < left → end ≤ length words → IsWhole left (text next)
-      → (next < end) × IsWhole (left - 1) (text (next + 1))
+  pub run_goes_on : (next target left : ℕ) → 0 < left → end ≤ length words → IsWholeText left (text next)
+      → (next < end) × IsWholeText (left - 1) (text (next + 1))
       × (run_writes target left (text next) ≡ record { at = target; word = get_or words next 0 } ∷ run_writes (target + 1) (left - 1) (text (next + 1)))
   run_goes_on next target zero some within whole = absurd (omega arith)
   run_goes_on next target (suc left) some within whole =
@@ -51,10 +51,10 @@ module _ (words : List ℕ) (end : ℕ) where
         | inl more ↦
             let one = text_more next more within in (
               more,
-              subst (λ (n : ℕ). IsWhole n (text (next + 1))) (sym same) (subst (IsWhole (suc left)) one whole),
+              subst (λ (n : ℕ). IsWholeText n (text (next + 1))) (sym same) (subst (IsWholeText (suc left)) one whole),
               ap (run_writes target (suc left)) one ∙ ap (λ (n : ℕ). record { at = target; word = get_or words next 0 } ∷ run_writes (target + 1) n (text (next + 1))) (sym same),
             )
-        | inr past ↦ absurd (subst (IsWhole (suc left)) (text_none next past) whole)
+        | inr past ↦ absurd (subst (IsWholeText (suc left)) (text_none next past) whole)
       ]
 
 -- after the place and the length of a run were read
@@ -63,7 +63,7 @@ pub run_read : (words : List ℕ) (cursor : Cursor) (place count : ℕ) → IsOn
     → (let after : Cursor = record { next = cursor.next + 2; end = cursor.end; target = place; left = count } in
     IsOnRuns words after × (0 < count) × (writes_ahead after words ≡ writes_ahead cursor words))
 run_read words cursor place count runs none more is_place is_count =
-    let whole : IsWhole 0 (text_between words cursor.next cursor.end) = subst (λ (n : ℕ). IsWhole n (text_between words cursor.next cursor.end)) none runs.whole in
+    let whole : IsWholeText 0 (text_between words cursor.next cursor.end) = subst (λ (n : ℕ). IsWholeText n (text_between words cursor.next cursor.end)) none runs.whole in
     let run = run_begins words cursor.end cursor.next cursor.target more runs.end whole in
     let rest = text_between words (cursor.next + 2) cursor.end in
     let ahead : run_writes place count rest ≡ writes_ahead cursor words =
@@ -73,7 +73,7 @@ run_read words cursor place count runs none more is_place is_count =
         before = omega (arith, run.0);
         end = runs.end;
         small = runs.small;
-        whole = subst (λ (n : ℕ). IsWhole n rest) (sym is_count) run.2;
+        whole = subst (λ (n : ℕ). IsWholeText n rest) (sym is_count) run.2;
         targets = subst (λ (l : List WordWrite). All (λ (write : WordWrite). write.at < length words) l) (sym ahead) runs.targets;
       },
       omega (arith, run.1, is_count),

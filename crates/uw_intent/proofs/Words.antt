@@ -5,7 +5,7 @@ use Rattle.std.proofs.lemmas.Bool.Decides.{nat_tests}
 use Rattle.std.proofs.lemmas.List.{length-set, get_or-set_same, get_or-set_other, drop-set-lt, drop-set-add, take-set-le, ext_get_or}
 use Rattle.std.proofs.lemmas.List.Elements.{All-cons, All-nil, All-take}
 use Rattle.uw_intent.specs.declared.frame.WordWrite.{WordWrite}
-use Rattle.uw_intent.specs.Stores.{made}
+use Rattle.uw_intent.specs.Stores.{words_after}
 use Rattle.uw_intent.proofs.Progress.{length-made}
 
 -- the last word written to a place, else its own
@@ -24,7 +24,7 @@ AllAway at writes = All (λ write. write.at ≢ at) writes
 all_rest : (P : WordWrite → Type 0) (write : WordWrite) (writes : List WordWrite) → All P (write ∷ writes) → All P writes
 all_rest P write writes all = λ k d h. all (suc k) d (omega arith)
 
-pub get_or-made : (writes : List WordWrite) (words : List ℕ) (at : ℕ) → AllWithin (length words) writes → get_or (made writes words) at 0 ≡ word_after writes at (get_or words at 0)
+pub get_or-made : (writes : List WordWrite) (words : List ℕ) (at : ℕ) → AllWithin (length words) writes → get_or (words_after writes words) at 0 ≡ word_after writes at (get_or words at 0)
 get_or-made [] words at all = refl
 get_or-made (write ∷ writes) words at all =
     let len = length-set words write.at write.word in
@@ -72,14 +72,14 @@ word_after_again writes k at own = elim (written_or_away writes at) [
   | inr away ↦ ap (word_after writes at) (word_after_away (take k writes) at own (All-take (λ (w : WordWrite). w.at ≢ at) k writes away))
 ]
 
-pub made_again : (writes : List WordWrite) (k : ℕ) (words : List ℕ) → AllWithin (length words) writes → made writes (made (take k writes) words) ≡ made writes words
+pub made_again : (writes : List WordWrite) (k : ℕ) (words : List ℕ) → AllWithin (length words) writes → words_after writes (words_after (take k writes) words) ≡ words_after writes words
 made_again writes k words all =
     let some : AllWithin (length words) (take k writes) = All-take (λ (w : WordWrite). w.at < length words) k writes all in
-    let len : length (made (take k writes) words) ≡ length words = length-made (take k writes) words in
-    let then : AllWithin (length (made (take k writes) words)) writes = subst (λ (n : ℕ). AllWithin n writes) (sym len) all in
-    ext_get_or 0 (made writes (made (take k writes) words)) (made writes words) (length-made writes (made (take k writes) words) ∙ len ∙ sym (length-made writes words))
+    let len : length (words_after (take k writes) words) ≡ length words = length-made (take k writes) words in
+    let then : AllWithin (length (words_after (take k writes) words)) writes = subst (λ (n : ℕ). AllWithin n writes) (sym len) all in
+    ext_get_or 0 (words_after writes (words_after (take k writes) words)) (words_after writes words) (length-made writes (words_after (take k writes) words) ∙ len ∙ sym (length-made writes words))
     (λ at h.
-    get_or-made writes (made (take k writes) words) at then ∙ ap (word_after writes at) (get_or-made (take k writes) words at some)
+    get_or-made writes (words_after (take k writes) words) at then ∙ ap (word_after writes at) (get_or-made (take k writes) words at some)
     ∙ word_after_again writes k at (get_or words at 0) ∙ sym (get_or-made writes words at all))
 
 -- a part of the words stays where no write goes into it
@@ -92,7 +92,7 @@ part_set words start n at word (inr behind) =
     ∙ take-set-le n (drop start words) (at - start) word (omega arith)
 
 pub part_made : (writes : List WordWrite) (words : List ℕ) (start n : ℕ) → All (λ write. (write.at < start) ⊎ (start + n ≤ write.at)) writes
-    → take n (drop start (made writes words)) ≡ take n (drop start words)
+    → take n (drop start (words_after writes words)) ≡ take n (drop start words)
 part_made [] words start n all = refl
 part_made (write ∷ writes) words start n all =
     part_made writes (set words write.at write.word) start n (all_rest (λ (w : WordWrite). (w.at < start) ⊎ (start + n ≤ w.at)) write writes all)

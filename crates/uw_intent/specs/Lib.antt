@@ -1,3 +1,3 @@
 pub mod Stores
 pub mod RedoRecord
-pub mod Cursors
+pub mod CursorSteps

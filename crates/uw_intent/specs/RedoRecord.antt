@@ -3,7 +3,7 @@ use Rattle.std.specs.Prelude.{◌≡◌, ◌≢◌, ◌⊎◌, ℕ, zero, suc, �
 use Rattle.uw_words.specs.Plans.{region}
 use Rattle.uw_intent.specs.declared.frame.WordWrite.{WordWrite}
 use Rattle.uw_intent.specs.declared.frame.Frame.{Frame}
-use Rattle.uw_intent.specs.Stores.{made}
+use Rattle.uw_intent.specs.Stores.{words_after}
 
 -- the gate and the used word stand before the record, which lies within a region of so many words
 pub record IsFrame (frame : Frame) (len : ℕ) : Type 0 where
@@ -34,17 +34,17 @@ run_writes target (suc left) [] = []
 run_writes target (suc left) (word ∷ text) = record { at = target; word = word } ∷ run_writes (target + 1) left text
 
 -- a text that begins so many words before the end of a run has whole runs, each of one word at least
-abbrev pub IsWhole : (left : ℕ) → List ℕ → Type 0
-IsWhole zero [] = Unit {0}
-IsWhole zero (place ∷ []) = ⊥
-IsWhole zero (place ∷ zero ∷ text) = ⊥
-IsWhole zero (place ∷ suc count ∷ text) = IsWhole (suc count) text
-IsWhole (suc left) [] = ⊥
-IsWhole (suc left) (word ∷ text) = IsWhole left text
+abbrev pub IsWholeText : (left : ℕ) → List ℕ → Type 0
+IsWholeText zero [] = Unit {0}
+IsWholeText zero (place ∷ []) = ⊥
+IsWholeText zero (place ∷ zero ∷ text) = ⊥
+IsWholeText zero (place ∷ suc count ∷ text) = IsWholeText (suc count) text
+IsWholeText (suc left) [] = ⊥
+IsWholeText (suc left) (word ∷ text) = IsWholeText left text
 
 -- the words of the record that are in use
-abbrev pub text_of : Frame → List ℕ → List ℕ
-text_of frame words = take (region words frame.used) (drop frame.start words)
+abbrev pub record_text : Frame → List ℕ → List ℕ
+record_text frame words = take (region words frame.used) (drop frame.start words)
 
 -- the gate closes
 abbrev pub closing : Frame → WordWrite
@@ -52,17 +52,17 @@ closing frame = record { at = frame.gate; word = 0 }
 
 -- the writes that are left to be made: none where the gate is closed, else those of the runs, and the gate closes
 abbrev pub repairs : Frame → List ℕ → List WordWrite
-repairs frame words = if region words frame.gate == 0 then [] else run_writes 0 0 (text_of frame words) ++ closing frame ∷ []
+repairs frame words = if region words frame.gate == 0 then [] else run_writes 0 0 (record_text frame words) ++ closing frame ∷ []
 
 -- what the words stand for: themselves, with the writes that are left
 abbrev pub applied : Frame → List ℕ → List ℕ
-applied frame words = made (repairs frame words) words
+applied frame words = words_after (repairs frame words) words
 
 -- the record is whole, and its runs write to places beyond it
 pub record IsRecord (frame : Frame) (words : List ℕ) : Type 0 where
   pub within : region words frame.used ≤ frame.room
-  pub whole : IsWhole 0 (text_of frame words)
-  pub targets : All (λ write. IsTarget frame (length words) write.at) (run_writes 0 0 (text_of frame words))
+  pub whole : IsWholeText 0 (record_text frame words)
+  pub targets : All (λ write. IsTarget frame (length words) write.at) (run_writes 0 0 (record_text frame words))
 
 -- the gate is closed, or it is open over a whole record
 abbrev pub IsIntact : Frame → List ℕ → Type 0
@@ -94,6 +94,6 @@ commit_writes frame (planned ∷ plan) =
     laid frame.start (runs_of whole) ++ record { at = frame.used; word = 3 * length whole } ∷ record { at = frame.gate; word = 1 } ∷ copies whole ++ closing frame ∷ []
 
 -- a plan that the record has room for, and that names places beyond it
-pub record IsFit (frame : Frame) (len : ℕ) (plan : List (ℕ × ℕ)) : Type 0 where
+pub record FitsRecord (frame : Frame) (len : ℕ) (plan : List (ℕ × ℕ)) : Type 0 where
   pub room : 3 * length plan ≤ frame.room
   pub targets : All (λ planned. IsTarget frame len planned.0) plan

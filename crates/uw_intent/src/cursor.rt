@@ -1,7 +1,7 @@
 // A walk over the runs of a record.
 ghost use Rattle.std.specs.Prelude.{◌≡◌, ◌+◌, ◌<◌, ◌≤◌, [], ◌∷◌, length, IfSome, IfNone, OnSome};
-ghost use Rattle.uw_intent.specs.RedoRecord.{IsFrame, IsRecord, run_writes, text_of};
-ghost use Rattle.uw_intent.specs.Cursors.{IsOnRuns, writes_ahead};
+ghost use Rattle.uw_intent.specs.RedoRecord.{IsFrame, IsRecord, run_writes, record_text};
+ghost use Rattle.uw_intent.specs.CursorSteps.{IsOnRuns, writes_ahead};
 
 use crate::{Frame, WordWrite};
 use uw_words::Ram;
@@ -22,7 +22,7 @@ impl Cursor {
         requires frame { IsFrame frame.now (length ram.now) }
         requires record { IsRecord frame.now ram.now }
         ensures runs { IsOnRuns ram.now result }
-        ensures ahead { writes_ahead result ram.now ≡ run_writes 0 0 (text_of frame.now ram.now) }
+        ensures ahead { writes_ahead result ram.now ≡ run_writes 0 0 (record_text frame.now ram.now) }
         ensures next { result.next ≡ frame.now.start }
         ensures end { result.end ≤ frame.now.start + frame.now.room }
     {

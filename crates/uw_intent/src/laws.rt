@@ -3,81 +3,81 @@ ghost use Rattle.std.specs.Prelude.{◌≡◌, ◌≢◌, ◌⊎◌, ◌+◌, �
 ghost use Rattle.uw_words.specs.Plans.{region, through, planned, HasDistinctPlaces};
 ghost use Rattle.uw_intent.specs.declared.frame.Frame.{Frame};
 ghost use Rattle.uw_intent.specs.declared.frame.WordWrite.{WordWrite};
-ghost use Rattle.uw_intent.specs.Stores.{made};
-ghost use Rattle.uw_intent.specs.RedoRecord.{IsFrame, IsFit, IsBeyond, IsIntact, StandsAs, commit_writes, repairs, applied};
+ghost use Rattle.uw_intent.specs.Stores.{words_after};
+ghost use Rattle.uw_intent.specs.RedoRecord.{IsFrame, FitsRecord, IsBeyond, IsIntact, StandsAs, commit_writes, repairs, applied};
 
 /// After each of the writes of a recovery the words are intact.
 pub fn recovery_keeps_words_intact()
     ensures { (frame : Frame) (words : List ℕ) (k : ℕ) → IsFrame frame (length words) → IsIntact frame words
-        → IsIntact frame (made (take k (repairs frame words)) words) }
+        → IsIntact frame (words_after (take k (repairs frame words)) words) }
 {}
 
 /// After each of the writes of a recovery the words stand for what they stood for before.
 pub fn recovery_keeps_what_words_stand_for()
     ensures { (frame : Frame) (words : List ℕ) (k : ℕ) → IsFrame frame (length words) → IsIntact frame words
-        → applied frame (made (take k (repairs frame words)) words) ≡ applied frame words }
+        → applied frame (words_after (take k (repairs frame words)) words) ≡ applied frame words }
 {}
 
 /// After all writes of a recovery the gate is closed.
 pub fn whole_recovery_closes_the_gate()
     ensures { (frame : Frame) (words : List ℕ) → IsFrame frame (length words) → IsIntact frame words
-        → region (made (repairs frame words) words) frame.gate ≡ 0 }
+        → region (words_after (repairs frame words) words) frame.gate ≡ 0 }
 {}
 
 /// After each of the writes of a commit the words are intact.
 pub fn commit_keeps_words_intact()
     ensures { (frame : Frame) (words : List ℕ) (plan : List (ℕ × ℕ)) (k : ℕ) → IsFrame frame (length words)
-        → region words frame.gate ≡ 0 → IsFit frame (length words) plan
-        → IsIntact frame (made (take k (commit_writes frame plan)) words) }
+        → region words frame.gate ≡ 0 → FitsRecord frame (length words) plan
+        → IsIntact frame (words_after (take k (commit_writes frame plan)) words) }
 {}
 
 /// Before the gate has opened, the words stand for the old ones.
 pub fn unopened_commit_stands_for_old_words()
     ensures { (frame : Frame) (words : List ℕ) (plan : List (ℕ × ℕ)) (k : ℕ) → IsFrame frame (length words)
-        → region words frame.gate ≡ 0 → IsFit frame (length words) plan → k ≤ 3 * length plan + 1
-        → StandsAs frame (made (take k (commit_writes frame plan)) words) (region words) }
+        → region words frame.gate ≡ 0 → FitsRecord frame (length words) plan → k ≤ 3 * length plan + 1
+        → StandsAs frame (words_after (take k (commit_writes frame plan)) words) (region words) }
 {}
 
 /// Before the gate has opened, only the record and the used word differ from the old words.
 pub fn unopened_commit_changes_the_record_only()
     ensures { (frame : Frame) (words : List ℕ) (plan : List (ℕ × ℕ)) (k : ℕ) → IsFrame frame (length words)
-        → region words frame.gate ≡ 0 → IsFit frame (length words) plan → k ≤ 3 * length plan + 1
+        → region words frame.gate ≡ 0 → FitsRecord frame (length words) plan → k ≤ 3 * length plan + 1
         → (at : ℕ) → (at < frame.start) ⊎ (frame.start + frame.room ≤ at) → at ≢ frame.used
-        → region (made (take k (commit_writes frame plan)) words) at ≡ region words at }
+        → region (words_after (take k (commit_writes frame plan)) words) at ≡ region words at }
 {}
 
 /// From the write that opens the gate on, the words stand for the planned ones.
 pub fn opened_commit_stands_for_planned_words()
     ensures { (frame : Frame) (words : List ℕ) (plan : List (ℕ × ℕ)) (k : ℕ) → IsFrame frame (length words)
-        → region words frame.gate ≡ 0 → IsFit frame (length words) plan → HasDistinctPlaces plan
+        → region words frame.gate ≡ 0 → FitsRecord frame (length words) plan → HasDistinctPlaces plan
         → 3 * length plan + 1 < k
-        → StandsAs frame (made (take k (commit_writes frame plan)) words) (through plan (region words)) }
+        → StandsAs frame (words_after (take k (commit_writes frame plan)) words) (through plan (region words)) }
 {}
 
 /// After each of the writes of a commit only planned places differ from the old words, beyond the record.
 pub fn commit_changes_planned_places_only()
     ensures { (frame : Frame) (words : List ℕ) (plan : List (ℕ × ℕ)) (k : ℕ) → IsFrame frame (length words)
-        → region words frame.gate ≡ 0 → IsFit frame (length words) plan
+        → region words frame.gate ≡ 0 → FitsRecord frame (length words) plan
         → (at : ℕ) → IsBeyond frame at → planned plan at ≡ None
-        → region (made (take k (commit_writes frame plan)) words) at ≡ region words at }
+        → region (words_after (take k (commit_writes frame plan)) words) at ≡ region words at }
 {}
 
 /// After all writes of a commit the gate is closed.
 pub fn whole_commit_closes_the_gate()
     ensures { (frame : Frame) (words : List ℕ) (plan : List (ℕ × ℕ)) → IsFrame frame (length words)
-        → region words frame.gate ≡ 0 → IsFit frame (length words) plan
-        → region (made (commit_writes frame plan) words) frame.gate ≡ 0 }
+        → region words frame.gate ≡ 0 → FitsRecord frame (length words) plan
+        → region (words_after (commit_writes frame plan) words) frame.gate ≡ 0 }
 {}
 
 /// After all writes of a commit the words are the planned ones, beyond the record.
 pub fn whole_commit_leaves_planned_words()
     ensures { (frame : Frame) (words : List ℕ) (plan : List (ℕ × ℕ)) → IsFrame frame (length words)
-        → region words frame.gate ≡ 0 → IsFit frame (length words) plan → HasDistinctPlaces plan
+        → region words frame.gate ≡ 0 → FitsRecord frame (length words) plan → HasDistinctPlaces plan
         → (at : ℕ) → IsBeyond frame at
-        → region (made (commit_writes frame plan) words) at ≡ through plan (region words) at }
+        → region (words_after (commit_writes frame plan) words) at ≡ through plan (region words) at }
 {}
 
 /// Writes leave the number of words.
 pub fn writes_keep_the_number_of_words()
-    ensures { (writes : List WordWrite) (words : List ℕ) → length (made writes words) ≡ length words }
+    ensures { (writes : List WordWrite) (words : List ℕ) → length (words_after writes words) ≡ length words }
 {}

@@ -3,7 +3,7 @@ ghost use Rattle.std.specs.Prelude.{◌≡◌, ◌+◌, ◌-◌, ◌*◌, ◌^�
 ghost use Rattle.uw_outside.specs.Faults.{HasCause};
 ghost use Rattle.uw_words.specs.Plans.{region};
 ghost use Rattle.uw_intent.specs.Stores.{numbered, AllMade, SomeMade};
-ghost use Rattle.uw_intent.specs.RedoRecord.{IsFrame, IsFit, IsIntact, commit_writes, runs_of};
+ghost use Rattle.uw_intent.specs.RedoRecord.{IsFrame, FitsRecord, IsIntact, commit_writes, runs_of};
 
 use crate::{Frame, WordWrite};
 use uw_outside::{Died, Life};
@@ -74,7 +74,7 @@ pub fn commit<L: Life>(
 ) -> Result<(), Died>
     requires frame { IsFrame frame.now (length ram.old) }
     requires idle { region ram.old frame.now.gate ≡ 0 }
-    requires fit { IsFit frame.now (length ram.old) plan.now.writes }
+    requires fit { FitsRecord frame.now (length ram.old) plan.now.writes }
     requires alive { L.alive life.old ≡ true }
     ensures all { OnOk result (AllMade (commit_writes frame.now plan.now.writes) ram.old ram.new
         (L.allowances life.old) (L.allowances life.new)) }

@@ -1,6 +1,5 @@
 -- What reading and filling answer.
-use Rattle.std.specs.Prelude.{◌≡◌, ℕ, ◌+◌, ◌<◌, ◌≤◌, List, ◌++◌, length, take, Option, None, Some, Result, Ok, Err, Bool, true, false}
-use Rattle.uw_base.specs.declared.bytes.Memory.{Memory}
+use Rattle.std.specs.Prelude.{◌≡◌, ℕ, ◌<◌, ◌≤◌, List, length, Some}
 use Rattle.uw_subst.specs.Templates.{fault_of}
 use Rattle.uw_subst.specs.declared.template.Filled.{Filled}
 use Rattle.uw_subst.specs.declared.template.Filled.TheVariants.{Text, TooLong}

@@ -1,9 +1,9 @@
 -- The parts of a template that was read. A part names bytes of the template's text by their place and their number.
-use Rattle.std.specs.Prelude.{◌≡◌, ℕ, ◌+◌, ◌-◌, ◌<◌, ◌≤◌, Bool, true, false, ◌||◌, List, [], ◌++◌, length, take, drop, slice_index_or, None, All}
+use Rattle.std.specs.Prelude.{◌≡◌, ℕ, ◌+◌, ◌-◌, ◌≤◌, Bool, true, false, List, [], length, take, drop, slice_index_or, None, All}
 use Rattle.std.specs.List.{flat_map, list_any}
 use Rattle.uw_base.specs.declared.variables.Pair.{Pair}
-use Rattle.uw_subst.specs.Forms.{Form, variable, query, time, date, encoded, bad, form_text, is_bad_form}
-use Rattle.uw_subst.specs.Templates.{fault_of, filled, first_bad, has_form, pieces_of}
+use Rattle.uw_subst.specs.Forms.{Form, variable, query, time, date, encoded, bad, form_text}
+use Rattle.uw_subst.specs.Templates.{fault_of, filled, has_form}
 use Rattle.uw_subst.specs.declared.parts.Span.{Span}
 use Rattle.uw_subst.specs.declared.parts.Part.{Part}
 use Rattle.uw_subst.specs.declared.parts.Part.TheVariants.{Constant, Capture, Variable, Query, Time, Date, Encoded}

@@ -4,7 +4,8 @@ use Rattle.std.specs.Vec.{vec_capacity}
 use Rattle.std.specs.declared.alloc.Global.{Global}
 use Rattle.std.proofs.lemmas.List.{length-replicate}
 use Rattle.uw_words.specs.Plans.{planned, Names, through, with_put, HasDistinctPlaces}
-use Rattle.uw_words.specs.Slots.{place, IsTable, Ends}
+use Rattle.uw_words.specs.Slots.{place, IsTable}
+use Rattle.uw_words.specs.SlotSteps.{Ends}
 use Rattle.uw_words.specs.Overlays.{IsSound}
 use Rattle.uw_words.proofs.Tables.{table_empty}
 use Rattle.uw_words.proofs.Writes.{planned_none, planned_at, with_put_at}

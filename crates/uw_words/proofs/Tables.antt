@@ -6,7 +6,8 @@ use Rattle.std.proofs.lemmas.List.{length-set, get_or-set_same, get_or-set_other
 use Rattle.std.proofs.lemmas.List.Folds.{sum_by-replicate}
 use Rattle.std.proofs.lemmas.List.Sums.{sum_by-set}
 use Rattle.uw_words.specs.Plans.{HasDistinctPlaces}
-use Rattle.uw_words.specs.Slots.{place, home, step_on, IsFullBefore, Reaches, IsTable, Ends}
+use Rattle.uw_words.specs.Slots.{place, home, step_on, IsFullBefore, Reaches, IsTable}
+use Rattle.uw_words.specs.SlotSteps.{Ends}
 
 -- the slots before this step from a place's home are full, and none of them has the place's number
 pub record Passed (plan : List (ℕ × ℕ)) (slots : List ℕ) (at steps : ℕ) : Type 0 where

@@ -1,3 +1,4 @@
 pub mod Plans
 pub mod Slots
 pub mod Overlays
+pub mod SlotSteps

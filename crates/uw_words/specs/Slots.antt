@@ -30,10 +30,3 @@ pub record IsTable (plan : List (ℕ × ℕ)) (slots : List ℕ) : Type 0 where
   pub numbers : (slot : ℕ) → slice_index slots slot ≤ length plan
   pub found : (k : ℕ) → k < length plan → (slot : ℕ) × Reaches slots (place plan k) slot × (slice_index slots slot ≡ k + 1)
   pub empty : count_by (λ number. number == 0) slots + length plan ≡ length slots
-
--- the slot at which the search for a place ends: it has the place's number, or it is empty and the plan does not name the place
-pub record Ends (plan : List (ℕ × ℕ)) (slots : List ℕ) (at slot : ℕ) : Type 0 where
-  pub within : slot < length slots
-  pub reached : Reaches slots at slot
-  pub named : (k : ℕ) → slice_index slots slot ≡ k + 1 → (k < length plan) × (place plan k ≡ at)
-  pub free : slice_index slots slot ≡ 0 → (k : ℕ) → k < length plan → place plan k ≢ at

@@ -1,7 +1,8 @@
 // A table of slots by which a place is found among planned writes in constant time.
 ghost use Rattle.std.specs.Prelude.{◌≡◌, ◌+◌, ◌<◌, ◌≤◌, replicate, length, slice_set, vec_capacity, vec_len};
 ghost use Rattle.uw_words.specs.Plans.{HasDistinctPlaces};
-ghost use Rattle.uw_words.specs.Slots.{IsTable, Ends, home};
+ghost use Rattle.uw_words.specs.Slots.{IsTable, home};
+ghost use Rattle.uw_words.specs.SlotSteps.{Ends};
 
 // An odd number near 2^64 divided by the golden ratio, which spreads places that follow each other.
 const SPREAD: u64 = 0x9E37_79B9_7F4A_7C15;

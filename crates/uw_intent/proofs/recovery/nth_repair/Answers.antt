@@ -1,7 +1,7 @@
 use Rattle.std.proofs.Common.{◌≡◌, ◌≢◌, ◌+◌, ◌-◌, ℕ, ◌∷◌, [], ◌++◌, drop, sym, ap, ◌∙◌, arith}
 use Rattle.uw_words.specs.Plans.{region}
 use Rattle.uw_intent.specs.RedoRecord.{closing}
-use Rattle.uw_intent.specs.Cursors.{writes_ahead}
+use Rattle.uw_intent.specs.CursorSteps.{writes_ahead}
 use Rattle.uw_intent.proofs.Repairs.{open_gate, run_repairs, repairs_open, drop_next, drop_end, numbered_past, number_ahead, length_more}
 use Rattle.uw_intent.proofs.recovery.nth_repair.Goals as goal
 

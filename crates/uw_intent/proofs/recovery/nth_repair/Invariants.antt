@@ -1,5 +1,5 @@
 use Rattle.std.proofs.Common.{◌≡◌, ◌≤◌, ◌-◌, length, drop}
-use Rattle.uw_intent.specs.Cursors.{IsOnRuns, writes_ahead}
+use Rattle.uw_intent.specs.CursorSteps.{IsOnRuns, writes_ahead}
 use Rattle.uw_intent.proofs.Repairs.{run_repairs}
 use Rattle.uw_intent.proofs.recovery.nth_repair.Given as goal
 

@@ -72,13 +72,13 @@ returns-clause-intact g c =
     let frame = c.args.frame.now in
     let old = c.args.ram.now in
     let gate : region old frame.gate ≢ 0 = open_gate (region old frame.gate) c.is_pending.result c.if-not-is_pending.false c.is_pending.ensures in
-    let made = left g c in
-    left_intact frame old c.store-2.new.self made.count c.requires.frame c.requires.intact gate made.words
+    let words_after = left g c in
+    left_intact frame old c.store-2.new.self words_after.count c.requires.frame c.requires.intact gate words_after.words
 
 pub returns-clause-same : goal.returns-clause-same
 returns-clause-same g c =
     let frame = c.args.frame.now in
     let old = c.args.ram.now in
     let gate : region old frame.gate ≢ 0 = open_gate (region old frame.gate) c.is_pending.result c.if-not-is_pending.false c.is_pending.ensures in
-    let made = left g c in
-    left_same frame old c.store-2.new.self made.count c.requires.frame c.requires.intact gate made.words
+    let words_after = left g c in
+    left_same frame old c.store-2.new.self words_after.count c.requires.frame c.requires.intact gate words_after.words

@@ -1,5 +1,6 @@
 use Rattle.std.proofs.Common.{◌+◌, ℕ, List, refl, subst}
-use Rattle.uw_words.specs.Slots.{Ends, place}
+use Rattle.uw_words.specs.Slots.{place}
+use Rattle.uw_words.specs.SlotSteps.{Ends}
 use Rattle.std.proofs.Common.{take}
 use Rattle.uw_words.proofs.Tables.{table_next}
 use Rattle.uw_words.proofs.slots.rebuild.Goals as goal

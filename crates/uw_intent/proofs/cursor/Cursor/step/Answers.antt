@@ -1,6 +1,6 @@
 use Rattle.std.proofs.Common.{◌≡◌, ℕ, ◌<◌, List, sym, refl, ◌∙◌, subst, arith}
 use Rattle.uw_intent.specs.declared.cursor.Cursor.{Cursor}
-use Rattle.uw_intent.specs.Cursors.{IsOnRuns, writes_ahead}
+use Rattle.uw_intent.specs.CursorSteps.{IsOnRuns, writes_ahead}
 use Rattle.uw_intent.proofs.Runs.{word_read}
 use Rattle.uw_intent.proofs.cursor.Cursor.step.Goals as goal
 use Rattle.uw_intent.proofs.cursor.Cursor.step.Goals.{After-load, then-self-eq0+else-self, else-self-eq0}

@@ -1,7 +1,7 @@
 use Rattle.std.proofs.Common.{◌≡◌, ◌-◌, ℕ, ◌∙◌, ap, sym, get_or}
 use Rattle.std.proofs.lemmas.List.{get_or_read}
 use Rattle.uw_words.specs.Plans.{region}
-use Rattle.uw_words.specs.Slots.{Ends}
+use Rattle.uw_words.specs.SlotSteps.{Ends}
 use Rattle.uw_words.proofs.Sound.{ends_in, is_named, read_free, read_named}
 use Rattle.uw_words.proofs.overlay.Overlay.load.Goals as goal
 use Rattle.uw_words.proofs.overlay.Overlay.load.Goals.{After-index}

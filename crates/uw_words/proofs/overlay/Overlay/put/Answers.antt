@@ -1,7 +1,8 @@
 use Rattle.std.proofs.Common.{◌≡◌, ◌≢◌, ◌<◌, length, vec_len, ◌+◌, ◌-◌, ◌*◌, min, ℕ, List, [], ◌∷◌, ◌++◌, ◌∙◌, ap, refl, sym, subst, arith, get_or, set}
 use Rattle.std.proofs.lemmas.List.{get_or_read}
 use Rattle.std.specs.Vec.{vec_capacity}
-use Rattle.uw_words.specs.Slots.{Ends, IsTable, place}
+use Rattle.uw_words.specs.Slots.{IsTable, place}
+use Rattle.uw_words.specs.SlotSteps.{Ends}
 use Rattle.uw_words.specs.Plans.{Plan, HasDistinctPlaces}
 use Rattle.uw_words.proofs.Sound.{ends_in, is_named, has_room, put_named}
 use Rattle.uw_words.proofs.Tables.{table_set, table_push}

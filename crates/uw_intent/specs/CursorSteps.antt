@@ -2,7 +2,7 @@
 use Rattle.std.specs.Prelude.{ℕ, ◌-◌, ◌^◌, ◌<◌, ◌≤◌, List, All, take, drop, length}
 use Rattle.uw_intent.specs.declared.frame.WordWrite.{WordWrite}
 use Rattle.uw_intent.specs.declared.cursor.Cursor.{Cursor}
-use Rattle.uw_intent.specs.RedoRecord.{run_writes, IsWhole}
+use Rattle.uw_intent.specs.RedoRecord.{run_writes, IsWholeText}
 
 -- the words from a place up to an end
 abbrev pub text_between : List ℕ → ℕ → ℕ → List ℕ
@@ -17,5 +17,5 @@ pub record IsOnRuns (words : List ℕ) (cursor : Cursor) : Type 0 where
   pub before : cursor.next ≤ cursor.end
   pub end : cursor.end ≤ length words
   pub small : length words < 2 ^ 63
-  pub whole : IsWhole cursor.left (text_between words cursor.next cursor.end)
+  pub whole : IsWholeText cursor.left (text_between words cursor.next cursor.end)
   pub targets : All (λ write. write.at < length words) (writes_ahead cursor words)
