@@ -1,3 +1,4 @@
 pub mod Tables
 pub mod Writes
 pub mod Sound
+pub mod Sieves

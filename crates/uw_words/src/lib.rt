@@ -5,6 +5,7 @@
 mod overlay;
 mod ram;
 mod shape;
+mod sieve;
 mod slots;
 #[cfg(test)]
 mod tests;
