@@ -1,3 +1,5 @@
 pub mod Tables
 pub mod Writes
 pub mod Sound
+pub mod Growth
+pub mod Links

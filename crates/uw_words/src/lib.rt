@@ -2,6 +2,7 @@
 //! read in place of the region's.
 #![tactic(auto)]
 
+pub mod laws;
 mod overlay;
 mod ram;
 mod shape;
