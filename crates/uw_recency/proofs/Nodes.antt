@@ -1,13 +1,13 @@
 -- The recency list as links between neighbours. A node is an item's number and 1 more, or 0 for no item, which comes before the first item and after the last one.
-use Rattle.std.proofs.Common.{◌≡◌, ◌≢◌, ◌⊎◌, inl, inr, ℕ, zero, suc, ◌+◌, ◌<◌, ◌≤◌, cond, eqb, List, [], ◌∷◌, refl, sym, ap, ◌∙◌, subst, arith}
+use Rattle.std.proofs.Common.{◌≡◌, ◌≢◌, ◌⊎◌, inl, inr, ℕ, zero, suc, ◌+◌, ◌<◌, cond, eqb, List, [], ◌∷◌, refl, sym, ap, ◌∙◌, subst, arith}
 use Rattle.std.proofs.lemmas.Bool.{cases_eq}
 use Rattle.std.proofs.lemmas.Bool.Decides.{nat_tests}
 use Rattle.uw_words.specs.declared.shape.Shape.{Shape}
 use Rattle.uw_words.specs.Shapes.{IsShape}
 use Rattle.uw_words.specs.Numbers.{IsOneOf, IsNoneOf, AreDistinct}
-use Rattle.uw_words.specs.Walks.{link_of, item_word, IsLink, IsWalk}
+use Rattle.uw_words.specs.Walks.{link_of, IsLink, IsWalk}
 use Rattle.uw_words.proofs.Links.{link_above, items_apart, fields_apart, same_link, one_apart}
-use Rattle.uw_recency.specs.Recency.{AreLinkedBack, IsRecency, without_item, forward_place, backward_place}
+use Rattle.uw_recency.specs.Recency.{AreLinkedBack, without_item, forward_place, backward_place}
 
 -- the link of a node, and the places of the links to the next and to the last node
 abbrev pub node_link : Shape → ℕ → ℕ
@@ -170,18 +170,18 @@ module _ (shape : Shape) (is : IsShape shape) where
       linked.1,
       behind,
       linked_same before now shape (suc x) items
-      (λ other at.
-      others (forward_of shape other) (both_apart other (suc item))
-      (forward_apart other (suc item) (node_apart (suc x) items other (suc item) at (λ same. new.0 (omega (arith, same))) new.1))
-      (both_apart other (suc x))
-      (forward_apart other 0 (node_apart (suc x) items other 0 at (λ same. absurd (omega (arith, same))) tt)))
-      (λ other at.
-      others (backward_of shape other)
-      (backward_apart other (suc item) (node_apart 0 items other (suc item) at (λ same. absurd (omega (arith, same))) new.1))
-      (λ same. both_apart (suc item) other (sym same))
-      (backward_apart other (suc x) (node_apart 0 items other (suc x) at (λ same. absurd (omega (arith, same))) distinct.0))
-      (λ same. both_apart 0 other (sym same)))
-      linked.3,
+          (λ other at.
+          others (forward_of shape other) (both_apart other (suc item))
+          (forward_apart other (suc item) (node_apart (suc x) items other (suc item) at (λ same. new.0 (omega (arith, same))) new.1))
+          (both_apart other (suc x))
+          (forward_apart other 0 (node_apart (suc x) items other 0 at (λ same. absurd (omega (arith, same))) tt)))
+          (λ other at.
+          others (backward_of shape other)
+          (backward_apart other (suc item) (node_apart 0 items other (suc item) at (λ same. absurd (omega (arith, same))) new.1))
+          (λ same. both_apart (suc item) other (sym same))
+          (backward_apart other (suc x) (node_apart 0 items other (suc x) at (λ same. absurd (omega (arith, same))) distinct.0))
+          (λ same. both_apart 0 other (sym same)))
+          linked.3,
     ),
   )
 
@@ -208,16 +208,16 @@ module _ (shape : Shape) (is : IsShape shape) (reader : ℕ → ℕ) where
     linked.1,
     back,
     linked_same reader now shape (suc x) items
-    (λ other at.
-    let later : IsNewNode (x ∷ items) node = new_rest item (x ∷ items) node new in
-    others (forward_of shape other)
-    (forward_apart shape is other node (node_apart (suc x) items other node at (new_head x items node later) (new_rest x items node later)))
-    (both_apart shape is other (suc x)))
-    (λ other at.
-    others (backward_of shape other)
-    (λ same. both_apart shape is node other (sym same))
-    (backward_apart shape is other (suc x) (node_apart 0 items other (suc x) at (λ same. absurd (omega (arith, same))) distinct.1.0)))
-    linked.3,
+        (λ other at.
+        let later : IsNewNode (x ∷ items) node = new_rest item (x ∷ items) node new in
+        others (forward_of shape other)
+        (forward_apart shape is other node (node_apart (suc x) items other node at (new_head x items node later) (new_rest x items node later)))
+        (both_apart shape is other (suc x)))
+        (λ other at.
+        others (backward_of shape other)
+        (λ same. both_apart shape is node other (sym same))
+        (backward_apart shape is other (suc x) (node_apart 0 items other (suc x) at (λ same. absurd (omega (arith, same))) distinct.1.0)))
+        linked.3,
   )
 
   between_here : (node item : ℕ) (items : List ℕ) → IsLinked reader shape node (item ∷ items) → AreDistinct (item ∷ items) → IsNewNode (item ∷ items) node
@@ -255,14 +255,14 @@ module _ (shape : Shape) (is : IsShape shape) (reader : ℕ → ℕ) where
         let stays : without_item (first ∷ items) item ≡ first ∷ without_item items item = grind (arith, nat_tests) in
         subst (λ (l : List ℕ). IsLinked now shape node l) (sym stays) (
           others (forward_of shape node)
-          (forward_apart shape is node rest.last (λ same. node_apart (suc first) items rest.last node rest.last_in (new_head first items node new) (new_rest first items node new) (sym same)))
-          (both_apart shape is node rest.next) ∙ linked.0,
+              (forward_apart shape is node rest.last (λ same. node_apart (suc first) items rest.last node rest.last_in (new_head first items node new) (new_rest first items node new) (sym same)))
+              (both_apart shape is node rest.next) ∙ linked.0,
           linked.1,
           others (backward_of shape (suc first))
-          (λ same. both_apart shape is rest.last (suc first) (sym same))
-          (backward_apart shape is (suc first) rest.next
-          (λ same. node_apart 0 items rest.next (suc first) rest.next_in (λ none. absurd (omega (arith, none))) distinct.0 (sym same)))
-          ∙ linked.2,
+              (λ same. both_apart shape is rest.last (suc first) (sym same))
+              (backward_apart shape is (suc first) rest.next
+              (λ same. node_apart 0 items rest.next (suc first) rest.next_in (λ none. absurd (omega (arith, none))) distinct.0 (sym same)))
+              ∙ linked.2,
           rest.left now ahead back others,
         );
   }
