@@ -1,5 +1,5 @@
 -- Links of items are apart, and walks along them.
-use Rattle.std.proofs.Common.{◌≡◌, ◌≢◌, inl, inr, ℕ, zero, suc, ◌+◌, ◌-◌, ◌*◌, ◌/◌, ◌<◌, ◌≤◌, true, List, [], ◌∷◌, length, refl, sym, ap, ◌∙◌, subst, arith}
+use Rattle.std.proofs.Common.{◌≡◌, ◌≢◌, inl, inr, ℕ, zero, suc, ◌+◌, ◌-◌, ◌*◌, ◌/◌, ◌<◌, ◌≤◌, true, List, [], ◌∷◌, length, get_or, refl, sym, ap, ◌∙◌, subst, arith}
 use Rattle.std.proofs.lemmas.Bool.Decides.{nat_tests}
 use Rattle.std.proofs.lemmas.Nat.{mul-add-lt, div-mul-add}
 use Rattle.std.proofs.Math.Nat.{mul_comm}
@@ -85,3 +85,14 @@ not_none (first ∷ numbers) number (inr later) none = not_none numbers number l
 
 pub one_apart : (numbers : List ℕ) (one other : ℕ) → IsOneOf numbers one → IsNoneOf numbers other → one ≢ other
 one_apart numbers one other among none = λ same. not_none numbers one among (subst (IsNoneOf numbers) (sym same) none)
+
+-- an element of a list is one of it, and the items of a walk are items of the region
+pub one_at : (numbers : List ℕ) (k : ℕ) → k < length numbers → IsOneOf numbers (get_or numbers k 0)
+one_at [] k short = absurd (omega arith)
+one_at (first ∷ numbers) zero short = inl refl
+one_at (first ∷ numbers) (suc k) short = inr (one_at numbers k (omega arith))
+
+pub walk_short : (shape : Shape) (reader : ℕ → ℕ) (field : ℕ) (items : List ℕ) (link : ℕ) → IsWalk reader shape link field items → (item : ℕ) → IsOneOf items item → item < shape.n_items
+walk_short shape reader field [] link walk item one = absurd one
+walk_short shape reader field (first ∷ items) link walk item (inl same) = subst (λ (i : ℕ). i < shape.n_items) same walk.1
+walk_short shape reader field (first ∷ items) link walk item (inr later) = walk_short shape reader field items (item_word reader shape first field) walk.2 item later
