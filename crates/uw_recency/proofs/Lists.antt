@@ -4,12 +4,13 @@ use Rattle.std.proofs.lemmas.Bool.{cases_eq}
 use Rattle.std.proofs.lemmas.Bool.Decides.{nat_tests}
 use Rattle.uw_words.specs.declared.shape.Shape.{Shape}
 use Rattle.uw_words.specs.Shapes.{IsShape}
-use Rattle.uw_words.specs.Numbers.{IsOneOf, IsNoneOf, AreDistinct}
+use Rattle.uw_words.specs.Numbers.{IsOneOf, IsNoneOf, AreDistinct, without_number}
 use Rattle.uw_words.specs.Parts.{AgreeOn}
 use Rattle.uw_words.specs.Walks.{link_of, item_word, IsWalk}
 use Rattle.uw_words.proofs.Links.{link_above, walk_same}
+use Rattle.uw_words.proofs.Numbers.{distinct_without}
 use Rattle.uw_words.proofs.Growth.{with_puts, with_puts-other, with_puts-first}
-use Rattle.uw_recency.specs.Recency.{AreLinkedBack, IsRecency, IsRecencyPlace, without_item, last_of, next_of, forward_place, backward_place, front_places, out_places, first_without}
+use Rattle.uw_recency.specs.Recency.{AreLinkedBack, IsRecency, IsRecencyPlace, last_of, next_of, forward_place, backward_place, front_places, out_places, first_without}
 use Rattle.uw_recency.proofs.Nodes.{node_link, forward_of, backward_of, IsLinked, linked_from, walk_of_linked, IsNodeOf, first_node, first_in, IsNode, first_link, both_apart, forward_is, backward_is, linked_once, front_linked, Between, between, backward_apart, forward_apart}
 
 pub linked_of : (reader : ℕ → ℕ) (shape : Shape) (items : List ℕ) → IsRecency reader shape items → IsLinked reader shape 0 items
@@ -22,32 +23,6 @@ recency_of reader shape items linked distinct =
 
 pub between_of : (shape : Shape) → IsShape shape → (reader : ℕ → ℕ) (items : List ℕ) (item : ℕ) → IsRecency reader shape items → IsOneOf items item → Between shape reader 0 items item
 between_of shape shaped reader items item is one = between shape shaped reader 0 items item (linked_of reader shape items is) is.distinct tt one
-
-none_without : (items : List ℕ) (item other : ℕ) → IsNoneOf items other → IsNoneOf (without_item items item) other
-none_without [] item other none = tt
-none_without (first ∷ items) item other none = elim (cases_eq first item) [
-  | inl same ↦ (let e : without_item (first ∷ items) item ≡ items = grind (arith, nat_tests) in subst (λ (l : List ℕ). IsNoneOf l other) (sym e) none.1)
-  | inr apart ↦ (let e : without_item (first ∷ items) item ≡ first ∷ without_item items item = grind (arith, nat_tests) in
-      subst (λ (l : List ℕ). IsNoneOf l other) (sym e) (none.0, none_without items item other none.1))
-]
-
-distinct_without : (items : List ℕ) (item : ℕ) → AreDistinct items → AreDistinct (without_item items item)
-distinct_without [] item distinct = tt
-distinct_without (first ∷ items) item distinct = elim (cases_eq first item) [
-  | inl same ↦ (let e : without_item (first ∷ items) item ≡ items = grind (arith, nat_tests) in subst AreDistinct (sym e) distinct.1)
-  | inr apart ↦ (let e : without_item (first ∷ items) item ≡ first ∷ without_item items item = grind (arith, nat_tests) in
-      subst AreDistinct (sym e) (none_without items item first distinct.0, distinct_without items item distinct.1))
-]
-
--- an item is not on the list without it
-pub gone : (items : List ℕ) (item : ℕ) → AreDistinct items → IsNoneOf (without_item items item) item
-gone [] item distinct = tt
-gone (first ∷ items) item distinct = elim (cases_eq first item) [
-  | inl same ↦ (let e : without_item (first ∷ items) item ≡ items = grind (arith, nat_tests) in
-      subst (λ (l : List ℕ). IsNoneOf l item) (sym e) (subst (IsNoneOf items) same distinct.0))
-  | inr apart ↦ (let e : without_item (first ∷ items) item ≡ first ∷ without_item items item = grind (arith, nat_tests) in
-      subst (λ (l : List ℕ). IsNoneOf l item) (sym e) (apart, gone items item distinct.1))
-]
 
 -- the words that are put where an item comes before the first one, and where an item leaves the list
 abbrev pub front_puts : Shape → (link first back : ℕ) → List (ℕ × ℕ)
@@ -93,13 +68,13 @@ module _ (shape : Shape) (shaped : IsShape shape) (before now : ℕ → ℕ) (it
 
   pub taken_out : IsOneOf items item → (forward backward newer older : ℕ) → newer ≡ before (link_of shape item + 1) → older ≡ before (link_of shape item + 2)
       → forward ≡ forward_place shape newer → backward ≡ backward_place shape older
-      → ((at : ℕ) → now at ≡ with_puts before (out_puts forward backward newer older) at) → IsRecency now shape (without_item items item)
+      → ((at : ℕ) → now at ≡ with_puts before (out_puts forward backward newer older) at) → IsRecency now shape (without_number items item)
   taken_out one forward backward newer older newer_is older_is forward_at backward_at read =
       let linked = between_of shape shaped before items item is one in
       let ahead : forward ≡ forward_of shape linked.last = forward_at ∙ ap (forward_place shape) (newer_is ∙ linked.back) ∙ forward_is shape shaped linked.last in
       let back : backward ≡ backward_of shape linked.next = backward_at ∙ ap (backward_place shape) (older_is ∙ linked.ahead) ∙ backward_is shape shaped linked.next in
       let apart : backward ≢ forward = λ same. both_apart shape shaped linked.last linked.next (sym ahead ∙ sym same ∙ back) in
-      recency_of now shape (without_item items item)
+      recency_of now shape (without_number items item)
       (linked.left now
       (ap now (sym ahead) ∙ read forward ∙ with_puts-first before forward older ((backward, newer) ∷ []) (apart, tt) ∙ older_is ∙ linked.ahead)
       (ap now (sym back) ∙ read backward ∙ with_puts-first (λ at. cond (eqb forward at) older (before at)) backward newer [] tt ∙ newer_is ∙ linked.back)
@@ -108,22 +83,22 @@ module _ (shape : Shape) (shaped : IsShape shape) (before now : ℕ → ℕ) (it
 
 -- the first link once an item has left the list
 pub first_left : (shape : Shape) → IsShape shape → (before now : ℕ → ℕ) (items : List ℕ) (item : ℕ) → IsRecency before shape items → IsOneOf items item
-    → IsRecency now shape (without_item items item) → now (shape.head + 6) ≡ first_without before shape item
+    → IsRecency now shape (without_number items item) → now (shape.head + 6) ≡ first_without before shape item
 first_left shape shaped before now [] item is one left = absurd one
 first_left shape shaped before now (first ∷ items) item is one left = elim (cases_eq first item) [
   | inl same ↦
-      let rest : without_item (first ∷ items) item ≡ items = grind (arith, nat_tests) in
+      let rest : without_number (first ∷ items) item ≡ items = grind (arith, nat_tests) in
       let none : item_word before shape item 1 ≡ 0 = subst (λ (i : ℕ). item_word before shape i 1 ≡ 0) same is.back.0 in
       let next : item_word before shape item 2 ≡ node_link shape (first_node items) =
       subst (λ (i : ℕ). item_word before shape i 2 ≡ node_link shape (first_node items)) same (first_link before shape (suc first) items (linked_of before shape (first ∷ items) is).3) in
-      now_first (without_item (first ∷ items) item) left ∙ ap (λ (l : List ℕ). node_link shape (first_node l)) rest ∙ sym next
+      now_first (without_number (first ∷ items) item) left ∙ ap (λ (l : List ℕ). node_link shape (first_node l)) rest ∙ sym next
       ∙ sym (taken none)
   | inr other ↦
-      let rest : without_item (first ∷ items) item ≡ first ∷ without_item items item = grind (arith, nat_tests) in
+      let rest : without_number (first ∷ items) item ≡ first ∷ without_number items item = grind (arith, nat_tests) in
       let linked = between shape shaped before (suc first) items item (linked_of before shape (first ∷ items) is).3 is.distinct.1 is.distinct.0
       (elim one [ inl here ↦ absurd (other here) | inr later ↦ later ]) in
       let some : item_word before shape item 1 ≢ 0 = λ none. last_some linked.last linked.last_in (sym linked.back ∙ none) in
-      now_first (without_item (first ∷ items) item) left ∙ ap (λ (l : List ℕ). node_link shape (first_node l)) rest ∙ sym is.walk.0
+      now_first (without_number (first ∷ items) item) left ∙ ap (λ (l : List ℕ). node_link shape (first_node l)) rest ∙ sym is.walk.0
       ∙ sym (stays some)
 ]
   where

@@ -4,10 +4,11 @@ use Rattle.std.proofs.lemmas.Bool.{cases_eq}
 use Rattle.std.proofs.lemmas.Bool.Decides.{nat_tests}
 use Rattle.uw_words.specs.declared.shape.Shape.{Shape}
 use Rattle.uw_words.specs.Shapes.{IsShape}
-use Rattle.uw_words.specs.Numbers.{IsOneOf, IsNoneOf, AreDistinct}
+use Rattle.uw_words.specs.Numbers.{IsOneOf, IsNoneOf, AreDistinct, without_number}
 use Rattle.uw_words.specs.Walks.{link_of, IsLink, IsWalk}
-use Rattle.uw_words.proofs.Links.{link_above, items_apart, fields_apart, same_link, one_apart}
-use Rattle.uw_recency.specs.Recency.{AreLinkedBack, without_item, forward_place, backward_place}
+use Rattle.uw_words.proofs.Links.{link_above, items_apart, fields_apart, same_link}
+use Rattle.uw_words.proofs.Numbers.{one_apart}
+use Rattle.uw_recency.specs.Recency.{AreLinkedBack, forward_place, backward_place}
 
 -- the link of a node, and the places of the links to the next and to the last node
 abbrev pub node_link : Shape → ℕ → ℕ
@@ -196,7 +197,7 @@ pub record Between (shape : Shape) (reader : ℕ → ℕ) (node : ℕ) (items : 
   pub last_is : IsNode shape node → IsNode shape last
   pub next_is : IsNode shape next
   pub left : (now : ℕ → ℕ) → now (forward_of shape last) ≡ node_link shape next → now (backward_of shape next) ≡ node_link shape last
-      → ((at : ℕ) → at ≢ forward_of shape last → at ≢ backward_of shape next → now at ≡ reader at) → IsLinked now shape node (without_item items item)
+      → ((at : ℕ) → at ≢ forward_of shape last → at ≢ backward_of shape next → now at ≡ reader at) → IsLinked now shape node (without_number items item)
 
 module _ (shape : Shape) (is : IsShape shape) (reader : ℕ → ℕ) where
   left_here : (now : ℕ → ℕ) (node item : ℕ) (items : List ℕ) → IsLinked reader shape (suc item) items → AreDistinct (item ∷ items) → IsNewNode (item ∷ items) node
@@ -232,7 +233,7 @@ module _ (shape : Shape) (is : IsShape shape) (reader : ℕ → ℕ) where
     last_is = λ valid. valid;
     next_is = first_is reader shape (suc item) items linked.3;
     left = λ now ahead back others.
-        let rest : without_item (item ∷ items) item ≡ items = grind (arith, nat_tests) in
+        let rest : without_number (item ∷ items) item ≡ items = grind (arith, nat_tests) in
         subst (λ (l : List ℕ). IsLinked now shape node l) (sym rest) (left_here now node item items linked.3 distinct new ahead back others);
   }
     where
@@ -252,7 +253,7 @@ module _ (shape : Shape) (is : IsShape shape) (reader : ℕ → ℕ) where
     last_is = λ valid. rest.last_is linked.1;
     next_is = rest.next_is;
     left = λ now ahead back others.
-        let stays : without_item (first ∷ items) item ≡ first ∷ without_item items item = grind (arith, nat_tests) in
+        let stays : without_number (first ∷ items) item ≡ first ∷ without_number items item = grind (arith, nat_tests) in
         subst (λ (l : List ℕ). IsLinked now shape node l) (sym stays) (
           others (forward_of shape node)
               (forward_apart shape is node rest.last (λ same. node_apart (suc first) items rest.last node rest.last_in (new_head first items node new) (new_rest first items node new) (sym same)))

@@ -3,12 +3,12 @@ use Rattle.std.proofs.Common.{◌≡◌, ℕ, zero, suc, ◌+◌, ◌<◌, List,
 use Rattle.uw_words.specs.declared.shape.Shape.{Shape}
 use Rattle.uw_words.specs.Shapes.{IsShape}
 use Rattle.uw_words.specs.Plans.{Plan}
-use Rattle.uw_words.specs.Numbers.{IsOneOf, IsNoneOf}
+use Rattle.uw_words.specs.Numbers.{IsOneOf, IsNoneOf, without_number}
 use Rattle.uw_words.specs.Parts.{seen, HasRoom, GrewAt}
 use Rattle.uw_words.specs.Walks.{link_of, item_word, IsLink}
 use Rattle.uw_words.proofs.Links.{link_above, same_link}
 use Rattle.uw_words.proofs.Growth.{put_on, puts_on, read_puts, grew_puts}
-use Rattle.uw_recency.specs.Recency.{IsRecency, IsRecent, backward_place, forward_place, front_places, out_places, without_item}
+use Rattle.uw_recency.specs.Recency.{IsRecency, IsRecent, backward_place, forward_place, front_places, out_places}
 use Rattle.uw_recency.proofs.Nodes.{node_link, first_node, IsNode, node_is_link, first_is}
 use Rattle.uw_recency.proofs.Lists.{front_puts, out_puts, pushed, taken_out, linked_of, between_of, node_item}
 
@@ -65,7 +65,7 @@ module _ (shape : Shape) (plan : Plan) (words : List ℕ) (item newer older forw
         subst (λ (places : List ℕ). GrewAt places plan now) (sym places_are)
         (subst (GrewAt (forward ∷ backward ∷ []) plan) (sym out_plan) (grew_puts plan (out_puts forward backward newer older)))
 
-    pub out_list : IsShape shape → (items : List ℕ) → IsRecency (seen plan words) shape items → IsOneOf items item → IsRecency (seen now words) shape (without_item items item)
+    pub out_list : IsShape shape → (items : List ℕ) → IsRecency (seen plan words) shape items → IsOneOf items item → IsRecency (seen now words) shape (without_number items item)
     out_list shaped items is one =
         taken_out shape shaped (seen plan words) (seen now words) items item is one forward backward newer older newer_is older_is forward_is backward_is
         (λ at. ap (λ (o : Plan). seen o words at) out_plan ∙ read_puts plan words (out_puts forward backward newer older) at)

@@ -28,11 +28,6 @@ IsRecent reader shape item = (items : List ℕ) × (IsRecency reader shape items
 abbrev pub IsUnlisted : (ℕ → ℕ) → Shape → ℕ → Type 0
 IsUnlisted reader shape item = (items : List ℕ) × (IsRecency reader shape items × IsNoneOf items item)
 
--- the items without this one
-abbrev pub without_item : List ℕ → ℕ → List ℕ
-without_item [] item = []
-without_item (first ∷ items) item = if first == item then items else first ∷ without_item items item
-
 -- the last of the items
 abbrev pub last_of : List ℕ → Option ℕ
 last_of [] = None

@@ -1,10 +1,10 @@
 // The list of items by which the least recent one is found.
 ghost use Rattle.std.specs.Prelude.{◌≡◌, ◌<◌, ◌+◌, ◌∷◌, ℕ, List, length, slice_get};
 ghost use Rattle.uw_words.specs.Shapes.{IsShape, region_words};
-ghost use Rattle.uw_words.specs.Numbers.{IsOneOf, IsNoneOf};
+ghost use Rattle.uw_words.specs.Numbers.{IsOneOf, IsNoneOf, without_number};
 ghost use Rattle.uw_words.specs.Parts.{seen, HasRoom, GrewAt};
 ghost use Rattle.uw_words.specs.Walks.{IsLink};
-ghost use Rattle.uw_recency.specs.Recency.{IsRecency, HasRecency, IsRecent, IsUnlisted, without_item, last_of, next_of, forward_place, backward_place, front_places, out_places, to_front_places};
+ghost use Rattle.uw_recency.specs.Recency.{IsRecency, HasRecency, IsRecent, IsUnlisted, last_of, next_of, forward_place, backward_place, front_places, out_places, to_front_places};
 
 use uw_words::{Overlay, Ram, Shape};
 
@@ -54,7 +54,7 @@ pub fn take_out(ram: &Ram, over: &mut Overlay, shape: &Shape, item: u64)
     requires listed { IsRecent (seen over.old ram.now) shape.now item }
     requires room { HasRoom over.old (out_places (seen over.old ram.now) shape.now item) }
     ensures list { (items : List ℕ) → IsRecency (seen over.old ram.now) shape.now items → IsOneOf items item
-        → IsRecency (seen over.new ram.now) shape.now (without_item items item) }
+        → IsRecency (seen over.new ram.now) shape.now (without_number items item) }
     ensures grew { GrewAt (out_places (seen over.old ram.now) shape.now item) over.old over.new }
 {
     let link = shape.link_of(item);
@@ -74,7 +74,7 @@ pub fn to_front(ram: &Ram, over: &mut Overlay, shape: &Shape, item: u64)
     requires listed { IsRecent (seen over.old ram.now) shape.now item }
     requires room { HasRoom over.old (to_front_places (seen over.old ram.now) shape.now item) }
     ensures list { (items : List ℕ) → IsRecency (seen over.old ram.now) shape.now items → IsOneOf items item
-        → IsRecency (seen over.new ram.now) shape.now (item ∷ without_item items item) }
+        → IsRecency (seen over.new ram.now) shape.now (item ∷ without_number items item) }
     ensures grew { GrewAt (to_front_places (seen over.old ram.now) shape.now item) over.old over.new }
 {
     take_out(ram, over, shape, item);

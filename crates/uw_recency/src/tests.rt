@@ -1,9 +1,9 @@
 // The list after each call, and the words that hold it.
 ghost use Rattle.std.specs.Prelude.{◌≡◌, ◌<◌, ◌+◌, ◌∷◌, [], length};
 ghost use Rattle.uw_words.specs.Shapes.{IsShape, region_words};
-ghost use Rattle.uw_words.specs.Numbers.{IsOneOf, IsNoneOf};
+ghost use Rattle.uw_words.specs.Numbers.{IsOneOf, IsNoneOf, without_number};
 ghost use Rattle.uw_words.specs.Parts.{seen};
-ghost use Rattle.uw_recency.specs.Recency.{IsRecency, without_item};
+ghost use Rattle.uw_recency.specs.Recency.{IsRecency};
 
 use crate::{last, newest, older, push_front, take_out, to_front};
 use std::process::Abort;
@@ -53,7 +53,7 @@ fn out(rt: &impl Abort, ram: &Ram, over: &mut Overlay, shape: &Shape, item: u64,
     requires item { item < shape.now.n_items }
     requires list { IsRecency (seen over.old ram.now) shape.now list.now }
     requires listed { IsOneOf list.now item }
-    ensures { IsRecency (seen over.new ram.now) shape.now (without_item list.now item) }
+    ensures { IsRecency (seen over.new ram.now) shape.now (without_number list.now item) }
 {
     assert!(rt; over.spare() >= 4);
     take_out(ram, over, shape, item);
@@ -66,7 +66,7 @@ fn again(rt: &impl Abort, ram: &Ram, over: &mut Overlay, shape: &Shape, item: u6
     requires item { item < shape.now.n_items }
     requires list { IsRecency (seen over.old ram.now) shape.now list.now }
     requires listed { IsOneOf list.now item }
-    ensures { IsRecency (seen over.new ram.now) shape.now (item ∷ without_item list.now item) }
+    ensures { IsRecency (seen over.new ram.now) shape.now (item ∷ without_number list.now item) }
 {
     assert!(rt; over.spare() >= 6);
     to_front(ram, over, shape, item);

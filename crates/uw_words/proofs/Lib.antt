@@ -2,4 +2,5 @@ pub mod Tables
 pub mod Writes
 pub mod Sound
 pub mod Growth
+pub mod Numbers
 pub mod Links

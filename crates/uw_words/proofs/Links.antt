@@ -1,11 +1,11 @@
 -- Links of items are apart, and walks along them.
-use Rattle.std.proofs.Common.{◌≡◌, ◌≢◌, inl, inr, ℕ, zero, suc, ◌+◌, ◌-◌, ◌*◌, ◌/◌, ◌<◌, ◌≤◌, true, List, [], ◌∷◌, length, get_or, refl, sym, ap, ◌∙◌, subst, arith}
+use Rattle.std.proofs.Common.{◌≡◌, ◌≢◌, inl, inr, ℕ, zero, suc, ◌+◌, ◌-◌, ◌*◌, ◌/◌, ◌<◌, ◌≤◌, true, List, [], ◌∷◌, length, refl, sym, ap, ◌∙◌, subst, arith}
 use Rattle.std.proofs.lemmas.Bool.Decides.{nat_tests}
 use Rattle.std.proofs.lemmas.Nat.{mul-add-lt, div-mul-add}
 use Rattle.std.proofs.Math.Nat.{mul_comm}
 use Rattle.uw_words.specs.declared.shape.Shape.{Shape}
 use Rattle.uw_words.specs.Shapes.{IsShape}
-use Rattle.uw_words.specs.Numbers.{IsOneOf, IsNoneOf}
+use Rattle.uw_words.specs.Numbers.{IsOneOf}
 use Rattle.uw_words.specs.Walks.{link_of, item_word, IsWalk, counted_walk, is_whole_walk}
 
 module _ (shape : Shape) (is : IsShape shape) where
@@ -78,20 +78,7 @@ walk_same shape before now field (item ∷ items) link same walk = (
       (walk_same shape before now field items (item_word before shape item field) (λ i one. same i (inr one)) walk.2),
 )
 
-pub not_none : (numbers : List ℕ) (number : ℕ) → IsOneOf numbers number → IsNoneOf numbers number → ⊥
-not_none [] number one none = one
-not_none (first ∷ numbers) number (inl here) none = none.0 here
-not_none (first ∷ numbers) number (inr later) none = not_none numbers number later none.1
-
-pub one_apart : (numbers : List ℕ) (one other : ℕ) → IsOneOf numbers one → IsNoneOf numbers other → one ≢ other
-one_apart numbers one other among none = λ same. not_none numbers one among (subst (IsNoneOf numbers) (sym same) none)
-
--- an element of a list is one of it, and the items of a walk are items of the region
-pub one_at : (numbers : List ℕ) (k : ℕ) → k < length numbers → IsOneOf numbers (get_or numbers k 0)
-one_at [] k short = absurd (omega arith)
-one_at (first ∷ numbers) zero short = inl refl
-one_at (first ∷ numbers) (suc k) short = inr (one_at numbers k (omega arith))
-
+-- the items of a walk are items of the region
 pub walk_short : (shape : Shape) (reader : ℕ → ℕ) (field : ℕ) (items : List ℕ) (link : ℕ) → IsWalk reader shape link field items → (item : ℕ) → IsOneOf items item → item < shape.n_items
 walk_short shape reader field [] link walk item one = absurd one
 walk_short shape reader field (first ∷ items) link walk item (inl same) = subst (λ (i : ℕ). i < shape.n_items) same walk.1

@@ -6,3 +6,4 @@ pub mod Shapes
 pub mod Numbers
 pub mod Parts
 pub mod Walks
+pub mod Records

@@ -1,5 +1,5 @@
 -- Lists of numbers, as places or items: what is among them (own rule).
-use Rattle.std.specs.Prelude.{◌≡◌, ◌≢◌, ◌⊎◌, ℕ, zero, suc, ◌+◌, List, [], ◌∷◌}
+use Rattle.std.specs.Prelude.{◌≡◌, ◌≢◌, ◌⊎◌, ℕ, zero, suc, ◌+◌, List, [], ◌∷◌, if◌then◌else◌, ◌==◌}
 
 -- the number is one of them
 abbrev pub IsOneOf : List ℕ → ℕ → Type 0
@@ -15,6 +15,11 @@ IsNoneOf (first ∷ numbers) number = (first ≢ number) × IsNoneOf numbers num
 abbrev pub AreDistinct : List ℕ → Type 0
 AreDistinct [] = Unit {0}
 AreDistinct (first ∷ numbers) = IsNoneOf numbers first × AreDistinct numbers
+
+-- the numbers without the first of them that is this one
+abbrev pub without_number : List ℕ → ℕ → List ℕ
+without_number [] number = []
+without_number (first ∷ numbers) number = if first == number then numbers else first ∷ without_number numbers number
 
 -- so many places in a row
 abbrev pub places_from : (first count : ℕ) → List ℕ

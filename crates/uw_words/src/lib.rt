@@ -9,7 +9,9 @@ mod shape;
 mod slots;
 #[cfg(test)]
 mod tests;
+mod texts;
 
 pub use overlay::Overlay;
 pub use ram::Ram;
 pub use shape::Shape;
+pub use texts::first_word;

@@ -1,8 +1,10 @@
 use Rattle.std.proofs.Common.{◌≡◌, ℕ, ◌+◌, sym, subst}
 use Rattle.uw_words.specs.Parts.{seen, HasRoom, GrewAt}
 use Rattle.uw_words.proofs.Growth.{grew_then, room_early, room_then}
-use Rattle.uw_recency.specs.Recency.{front_places, out_places, without_item, first_without}
-use Rattle.uw_recency.proofs.Lists.{first_left, gone}
+use Rattle.uw_words.specs.Numbers.{without_number}
+use Rattle.uw_recency.specs.Recency.{front_places, out_places, first_without}
+use Rattle.uw_recency.proofs.Lists.{first_left}
+use Rattle.uw_words.proofs.Numbers.{gone}
 use Rattle.uw_recency.proofs.recency.to_front.Goals as goal
 
 pub take_out-requires-clause-room : goal.take_out-requires-clause-room
@@ -14,7 +16,7 @@ take_out-requires-clause-room c =
 pub push_front-requires-clause-unlisted : goal.push_front-requires-clause-unlisted
 push_front-requires-clause-unlisted c =
     let list = c.requires.listed in
-    (without_item list.0 c.args.item, (c.take_out.ensures.list list.0 list.1.0 list.1.1, gone list.0 c.args.item list.1.0.distinct))
+    (without_number list.0 c.args.item, (c.take_out.ensures.list list.0 list.1.0 list.1.1, gone list.0 c.args.item list.1.0.distinct))
 
 pub push_front-requires-clause-room : goal.push_front-requires-clause-room
 push_front-requires-clause-room c =
@@ -30,7 +32,7 @@ push_front-requires-clause-room c =
 
 pub returns-clause-list : goal.returns-clause-list
 returns-clause-list c = λ items is one.
-    c.push_front.ensures.list (without_item items c.args.item) (c.take_out.ensures.list items is one) (gone items c.args.item is.distinct)
+    c.push_front.ensures.list (without_number items c.args.item) (c.take_out.ensures.list items is one) (gone items c.args.item is.distinct)
 
 pub returns-clause-grew : goal.returns-clause-grew
 returns-clause-grew c =
