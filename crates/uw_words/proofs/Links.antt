@@ -42,6 +42,17 @@ module _ (shape : Shape) (is : IsShape shape) where
       let inner : link_of shape item - shape.items ≡ item * shape.stride + 0 = omega arith in
       ap (λ (n : ℕ). n / shape.stride) inner ∙ div-mul-add item shape.stride 0 (omega (arith, is.stride))
 
+  -- one link has one walk along a field
+  pub walk_once : (reader : ℕ → ℕ) (field : ℕ) (items others : List ℕ) (link : ℕ) → IsWalk reader shape link field items → IsWalk reader shape link field others → items ≡ others
+  walk_once reader field [] [] link one two = refl
+  walk_once reader field [] (y ∷ others) link one two = absurd (omega (arith, link_above y, one, two.0))
+  walk_once reader field (x ∷ items) [] link one two = absurd (omega (arith, link_above x, one.0, two))
+  walk_once reader field (x ∷ items) (y ∷ others) link one two =
+      let same : x ≡ y = same_link x y (sym one.0 ∙ two.0) in
+      let next : IsWalk reader shape (item_word reader shape x field) field others = subst (λ (i : ℕ). IsWalk reader shape (item_word reader shape i field) field others) (sym same) two.2 in
+      let rest : items ≡ others = walk_once reader field items others (item_word reader shape x field) one.2 next in
+      cc
+
   -- a counted walk gives the items of a walk, where it may give as many
   pub counted_is : (reader : ℕ → ℕ) (field : ℕ) (items : List ℕ) (link count : ℕ) → IsWalk reader shape link field items → length items ≤ count
       → (counted_walk reader shape link field count ≡ items) × (is_whole_walk reader link field count ≡ true)

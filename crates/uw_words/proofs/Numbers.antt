@@ -1,5 +1,5 @@
 -- Lists of numbers, and what is among them.
-use Rattle.std.proofs.Common.{◌≡◌, ◌≢◌, inl, inr, ℕ, zero, suc, ◌<◌, ◌≤◌, true, false, eqb, List, [], ◌∷◌, length, get_or, refl, sym, subst, arith}
+use Rattle.std.proofs.Common.{◌≡◌, ◌≢◌, ⊎_elim, inl, inr, ℕ, zero, suc, ◌<◌, ◌≤◌, true, false, eqb, List, [], ◌∷◌, length, get_or, refl, sym, subst, arith}
 use Rattle.std.specs.List.{IsDistinct, AllByRecursion, list_any}
 use Rattle.std.proofs.lemmas.Bool.{cases_eq, or_cases}
 use Rattle.std.proofs.lemmas.Bool.Decides.{nat_tests}
@@ -68,3 +68,11 @@ one_by_test (first ∷ numbers) number any = elim (or_cases (eqb number first) (
 pub distinct_length : (numbers : List ℕ) (bound : ℕ) → AreDistinct numbers → ((number : ℕ) → IsOneOf numbers number → number < bound) → length numbers ≤ bound
 distinct_length numbers bound distinct below =
     length-le_from_distinct_below numbers bound (distinct_by_test numbers distinct) (λ number any. below number (one_by_test numbers number any))
+
+pub one_of_without : (numbers : List ℕ) (number other : ℕ) → IsOneOf (without_number numbers number) other → IsOneOf numbers other
+one_of_without [] number other one = one
+one_of_without (first ∷ numbers) number other one = elim (cases_eq first number) [
+  | inl same ↦ (let e : without_number (first ∷ numbers) number ≡ numbers = grind (arith, nat_tests) in inr (subst (λ (l : List ℕ). IsOneOf l other) e one))
+  | inr apart ↦ (let e : without_number (first ∷ numbers) number ≡ first ∷ without_number numbers number = grind (arith, nat_tests) in
+  ⊎_elim (λ here. inl here) (λ later. inr (one_of_without numbers number other later)) (subst (λ (l : List ℕ). IsOneOf l other) e one))
+]
