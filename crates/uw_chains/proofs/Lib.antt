@@ -1,2 +1,5 @@
 pub mod Places
 pub mod Joined
+pub mod Departed
+pub mod Puts
+pub mod Sought
