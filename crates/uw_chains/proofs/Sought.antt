@@ -170,3 +170,8 @@ module _ (shape : Shape) (shaped : IsShape shape) (reader : ℕ → ℕ) (key : 
       | inl among ↦ λ holds. none_in s.rest item s.walk among (elim ended [ inl zero ↦ inl zero | inr all ↦ inr (omega (arith, s.bound, all)) ])
       | inr holds ↦ holds
     ]
+
+-- what holds of an answer
+pub some_more : (answer : Option ℕ) (P Q : ℕ → Type 0) → ((item : ℕ) → P item → Q item) → IfSome answer P → IfSome answer Q
+some_more None P Q more some = some
+some_more (Some item) P Q more some = more item some
