@@ -3,3 +3,4 @@ pub mod Joined
 pub mod Departed
 pub mod Puts
 pub mod Sought
+pub mod OneChain
