@@ -2,6 +2,7 @@
 //! read in place of the region's.
 #![tactic(auto)]
 
+pub mod laws;
 mod overlay;
 mod ram;
 mod shape;
@@ -9,7 +10,9 @@ mod sieve;
 mod slots;
 #[cfg(test)]
 mod tests;
+mod texts;
 
 pub use overlay::Overlay;
 pub use ram::Ram;
 pub use shape::Shape;
+pub use texts::first_word;
