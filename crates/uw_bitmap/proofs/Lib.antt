@@ -1,0 +1,4 @@
+pub mod Searches
+pub mod WordBits
+pub mod Blocks
+pub mod Steps

@@ -1,0 +1,9 @@
+//! The bitmap of a region: the least free run of blocks, and runs that are marked and unmarked.
+#![tactic(auto)]
+
+mod bits;
+mod run;
+mod search;
+
+pub use run::{mark, unmark};
+pub use search::first_run;
