@@ -1,15 +1,18 @@
 -- How an overlay grows by the words that are put, and what is read then.
-use Rattle.std.proofs.Common.{◌≡◌, ◌≢◌, ◌⊎◌, inl, inr, ℕ, zero, suc, ◌+◌, ◌<◌, ◌≤◌, cond, eqb, List, [], ◌∷◌, ◌++◌, Option, Some, unwrap_or, map, length, refl, sym, ap, ◌∙◌, arith}
+use Rattle.std.proofs.Common.{◌≡◌, ◌≢◌, ◌⊎◌, inl, inr, ℕ, zero, suc, ◌+◌, ◌<◌, ◌≤◌, cond, eqb, List, [], ◌∷◌, ◌++◌, Option, Some, unwrap_or, map, length, refl, sym, ap, ◌∙◌, subst, arith}
 use Rattle.std.proofs.lemmas.Bool.{cases_eq}
 use Rattle.std.proofs.lemmas.Bool.Decides.{nat_tests}
 use Rattle.uw_words.specs.Plans.{Plan, region, planned, Names, through, with_put}
 use Rattle.uw_words.specs.Numbers.{IsOneOf, IsNoneOf, places_from}
 use Rattle.uw_words.specs.Parts.{seen, places_of, with_place, with_places, HasRoom, GrewAt}
 
--- the planned writes after some more words are put
-abbrev pub writes_after : List (ℕ × ℕ) → List (ℕ × ℕ) → List (ℕ × ℕ)
-writes_after writes [] = writes
-writes_after writes (put ∷ puts) = writes_after (with_put writes put.0 put.1) puts
+-- an overlay after a word is put, and after some are, one after the other
+abbrev pub put_on : Plan → ℕ → ℕ → Plan
+put_on plan at word = record plan { writes = with_put plan.writes at word }
+
+abbrev pub puts_on : Plan → List (ℕ × ℕ) → Plan
+puts_on plan [] = plan
+puts_on plan (put ∷ puts) = puts_on (put_on plan put.0 put.1) puts
 
 -- a reader after some words are put
 abbrev pub with_puts : (ℕ → ℕ) → List (ℕ × ℕ) → ℕ → ℕ
@@ -57,7 +60,7 @@ none_of-append (first ∷ early) late at none =
 pub grew_none : (plan : Plan) → GrewAt [] plan plan
 grew_none plan = record { room = refl; named = refl; others = λ at none. refl }
 
-pub grew_put : (plan : Plan) (at word : ℕ) → GrewAt (at ∷ []) plan (record plan { writes = with_put plan.writes at word })
+pub grew_put : (plan : Plan) (at word : ℕ) → GrewAt (at ∷ []) plan (put_on plan at word)
 grew_put plan at word = record {
   room = refl;
   named = places-put plan.writes at word;
@@ -73,11 +76,11 @@ grew_then early late before mid now first second = record {
       second.others at both.1 ∙ first.others at both.0;
 }
 
-pub grew_puts : (plan : Plan) (puts : List (ℕ × ℕ)) → GrewAt (map (λ put. put.0) puts) plan (record plan { writes = writes_after plan.writes puts })
+pub grew_puts : (plan : Plan) (puts : List (ℕ × ℕ)) → GrewAt (map (λ put. put.0) puts) plan (puts_on plan puts)
 grew_puts plan [] = grew_none plan
 grew_puts plan (put ∷ puts) =
-    grew_then (put.0 ∷ []) (map (λ (p : ℕ × ℕ). p.0) puts) plan (record plan { writes = with_put plan.writes put.0 put.1 }) (record plan { writes = writes_after (with_put plan.writes put.0 put.1) puts })
-    (grew_put plan put.0 put.1) (grew_puts (record plan { writes = with_put plan.writes put.0 put.1 }) puts)
+    grew_then (put.0 ∷ []) (map (λ (p : ℕ × ℕ). p.0) puts) plan (put_on plan put.0 put.1) (puts_on (put_on plan put.0 put.1) puts) (grew_put plan put.0 put.1)
+    (grew_puts (put_on plan put.0 put.1) puts)
 
 -- what is read where an overlay did not grow
 pub read_grown : (places : List ℕ) (before now : Plan) (words : List ℕ) (at : ℕ) → GrewAt places before now → IsNoneOf places at → seen now words at ≡ seen before words at
@@ -90,20 +93,20 @@ with_puts-same one two (put ∷ puts) at same =
     with_puts-same (λ place. cond (eqb put.0 place) put.1 (one place)) (λ place. cond (eqb put.0 place) put.1 (two place)) puts at
     (λ place. ap (cond (eqb put.0 place) put.1) (same place))
 
-pub read_puts : (writes : List (ℕ × ℕ)) (reader : ℕ → ℕ) (puts : List (ℕ × ℕ)) (at : ℕ) → through (writes_after writes puts) reader at ≡ with_puts (through writes reader) puts at
-read_puts writes reader [] at = refl
-read_puts writes reader (put ∷ puts) at =
-    read_puts (with_put writes put.0 put.1) reader puts at
-    ∙ with_puts-same (through (with_put writes put.0 put.1) reader) (λ place. cond (eqb put.0 place) put.1 (through writes reader place)) puts at (λ place. one_put place)
+pub read_puts : (plan : Plan) (words : List ℕ) (puts : List (ℕ × ℕ)) (at : ℕ) → seen (puts_on plan puts) words at ≡ with_puts (seen plan words) puts at
+read_puts plan words [] at = refl
+read_puts plan words (put ∷ puts) at =
+    read_puts (put_on plan put.0 put.1) words puts at
+    ∙ with_puts-same (seen (put_on plan put.0 put.1) words) (λ place. cond (eqb put.0 place) put.1 (seen plan words place)) puts at (λ place. one_put place)
   where
-    one_put : (place : ℕ) → through (with_put writes put.0 put.1) reader place ≡ cond (eqb put.0 place) put.1 (through writes reader place)
+    one_put : (place : ℕ) → seen (put_on plan put.0 put.1) words place ≡ cond (eqb put.0 place) put.1 (seen plan words place)
     one_put place = elim (cases_eq put.0 place) [
       | inl same ↦
-          let read : through (with_put writes put.0 put.1) reader place ≡ put.1 =
-          ap (through (with_put writes put.0 put.1) reader) (sym same) ∙ read_put writes reader put.0 put.1 in
+          let read : seen (put_on plan put.0 put.1) words place ≡ put.1 =
+          ap (seen (put_on plan put.0 put.1) words) (sym same) ∙ read_put plan.writes (region words) put.0 put.1 in
           grind (arith, nat_tests)
       | inr other ↦
-          let read : through (with_put writes put.0 put.1) reader place ≡ through writes reader place = read_other writes reader put.0 put.1 place other in
+          let read : seen (put_on plan put.0 put.1) words place ≡ seen plan words place = read_other plan.writes (region words) put.0 put.1 place other in
           grind (arith, nat_tests)
     ]
 
@@ -179,8 +182,9 @@ room_then early late before now room grew =
     ap (λ (l : List ℕ). length (with_places l late)) grew.named ∙ ap length (sym (with_places-append (places_of before.writes) early late)) in
     omega (arith, named, room, grew.room)
 
-pub room_put : (plan : Plan) (at word : ℕ) (places : List ℕ) → HasRoom plan (at ∷ places) → HasRoom (record plan { writes = with_put plan.writes at word }) places
-room_put plan at word places room = room_then (at ∷ []) places plan (record plan { writes = with_put plan.writes at word }) room (grew_put plan at word)
+pub room_next : (before now : Plan) (at word : ℕ) (places : List ℕ) → now ≡ put_on before at word → HasRoom before (at ∷ places) → HasRoom now places
+room_next before now at word places is room =
+    subst (λ (plan : Plan). HasRoom plan places) (sym is) (room_then (at ∷ []) places before (put_on before at word) room (grew_put before at word))
 
 pub room_early : (early late : List ℕ) (plan : Plan) → HasRoom plan (early ++ late) → HasRoom plan early
 room_early early late plan room =
