@@ -2,3 +2,4 @@ pub mod Searches
 pub mod WordBits
 pub mod Blocks
 pub mod Steps
+pub mod Runs

@@ -1,5 +1,5 @@
 -- A search for a free run goes on.
-use Rattle.std.proofs.Common.{◌≡◌, ◌⊎◌, inl, inr, ⊎_elim, ℕ, ◌+◌, ◌-◌, ◌<◌, ◌≤◌, Bool, true, false, sym, ap, ◌∙◌, subst, arith}
+use Rattle.std.proofs.Common.{◌≡◌, ⊎_elim, ℕ, ◌+◌, ◌-◌, ◌<◌, ◌≤◌, Bool, true, false, sym, ap, ◌∙◌, arith}
 use Rattle.std.proofs.lemmas.Bool.{cases_lt}
 use Rattle.uw_bitmap.specs.Bits.{IsFreeRun, IsLeastRun}
 use Rattle.uw_bitmap.specs.SearchSteps.{IsSought}
@@ -29,8 +29,8 @@ module _ (marked : ℕ → Bool) (n : ℕ) where
     where
       taken : (first : ℕ) → first < next → (i : ℕ) × (i < n) × (marked (first + i) ≡ true)
       taken first h = ⊎_elim (λ before. s.taken first before) (λ after. ⊎_elim
-        (λ under. let there : at ≡ first + (at - first) = omega arith in (at - first, omega (arith, s.short), ap marked (sym there) ∙ full at (omega arith) on))
-        (λ here. let same : first + 0 ≡ first = omega arith in (0, some, ap marked same ∙ full first here h)) (cases_lt first at)) (cases_lt first start)
+          (λ under. let there : at ≡ first + (at - first) = omega arith in (at - first, omega (arith, s.short), ap marked (sym there) ∙ full at (omega arith) on))
+          (λ here. let same : first + 0 ≡ first = omega arith in (0, some, ap marked same ∙ full first here h)) (cases_lt first at)) (cases_lt first start)
 
   no_run_before : (blocks start at first : ℕ) → IsSought marked n start at → first < start → IsFreeRun marked blocks first n → ⊥
   no_run_before blocks start at first s before run =

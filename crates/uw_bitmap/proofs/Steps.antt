@@ -1,14 +1,14 @@
 -- One word of the bitmap is looked at.
-use Rattle.std.proofs.Common.{◌≡◌, ℕ, ◌+◌, ◌-◌, ◌*◌, ◌/◌, ◌%◌, ◌^◌, ◌<◌, ◌≤◌, Bool, true, false, ◌==◌, sym, ap, ◌∙◌, subst, arith}
+use Rattle.std.proofs.Common.{◌≡◌, ℕ, ◌+◌, ◌-◌, ◌/◌, ◌%◌, ◌^◌, ◌<◌, ◌≤◌, false, ◌==◌, ap, ◌∙◌, arith}
 use Rattle.std.specs.Int.{bit_at}
 use Rattle.std.proofs.Math.Nat.{le-mul_of_pos_right}
 use Rattle.std.proofs.lemmas.Nat.Bits.{bit_at_ones}
 use Rattle.uw_words.specs.declared.shape.Shape.{Shape}
 use Rattle.uw_words.specs.Shapes.{IsShape}
-use Rattle.uw_bitmap.specs.Bits.{is_marked, IsLeastRun, IsFreeRun}
+use Rattle.uw_bitmap.specs.Bits.{is_marked, IsLeastRun}
 use Rattle.uw_bitmap.specs.SearchSteps.{IsSought}
 use Rattle.uw_bitmap.proofs.Blocks.{marks_are}
-use Rattle.uw_bitmap.proofs.Searches.{longer, passed, found, none_within}
+use Rattle.uw_bitmap.proofs.Searches.{longer, passed, found}
 
 -- blocks are fewer than bytes can be
 pub few_blocks : (shape : Shape) → IsShape shape → shape.n_blocks < 2 ^ 63
@@ -29,7 +29,7 @@ module _ (reader : ℕ → ℕ) (shape : Shape) (n start at word : ℕ) (some : 
   -- all of its blocks are marked
   pub over_full_word : word ≡ 2 ^ 64 - 1 → IsSought (is_marked reader shape) n (at - at % 64 + 64) (at - at % 64 + 64)
   over_full_word full = passed (is_marked reader shape) n start at (at - at % 64 + 64) some sought (omega arith) (λ block behind before.
-    marks (at % 64) 64 1 (omega arith) (omega arith) (λ i from to. ap (λ (w : ℕ). bit_at w i) full ∙ bit_at_ones 64 i to) block (omega arith) before)
+      marks (at % 64) 64 1 (omega arith) (omega arith) (λ i from to. ap (λ (w : ℕ). bit_at w i) full ∙ bit_at_ones 64 i to) block (omega arith) before)
 
   -- its blocks up to a place are unmarked, and still too few
   pub over_free_bits : (one : ℕ) → at % 64 ≤ one → one ≤ 64 → ((i : ℕ) → at % 64 ≤ i → i < one → bit_at word i ≡ 0) → at - at % 64 + one - start < n
@@ -40,7 +40,7 @@ module _ (reader : ℕ → ℕ) (shape : Shape) (n start at word : ℕ) (some : 
   pub over_marked_bits : (one end : ℕ) → at % 64 ≤ one → one < end → end ≤ 64 → ((i : ℕ) → at % 64 ≤ i → i < one → bit_at word i ≡ 0) → at - at % 64 + one - start < n
       → ((i : ℕ) → one ≤ i → i < end → bit_at word i ≡ 1) → IsSought (is_marked reader shape) n (at - at % 64 + end) (at - at % 64 + end)
   over_marked_bits one end on more within zeros short ones = passed (is_marked reader shape) n start (at - at % 64 + one) (at - at % 64 + end) some
-    (over_free_bits one on (omega arith) zeros short) (omega arith) (marks one end 1 on within ones)
+      (over_free_bits one on (omega arith) zeros short) (omega arith) (marks one end 1 on within ones)
 
   -- its blocks up to a place are unmarked, and enough
   pub at_enough : (one : ℕ) → at % 64 ≤ one → one ≤ 64 → ((i : ℕ) → at % 64 ≤ i → i < one → bit_at word i ≡ 0) → n ≤ at - at % 64 + one - start

@@ -1,10 +1,10 @@
 -- Bits of one word.
-use Rattle.std.proofs.Common.{◌≡◌, ℕ, ◌+◌, ◌-◌, ◌*◌, ◌/◌, ◌%◌, ◌^◌, ◌<◌, ◌≤◌, ⊎_elim, sym, ap, ◌∙◌, subst, arith}
-use Rattle.std.specs.Int.{bit_at, trailing_zeros, w64}
+use Rattle.std.proofs.Common.{◌≡◌, ℕ, bit_and, bit_or, ◌+◌, ◌-◌, ◌/◌, ◌%◌, ◌^◌, ◌<◌, ◌≤◌, min, ⊎_elim, sym, ap, ◌∙◌, subst, arith}
+use Rattle.std.specs.Int.{bit_at, bit_not, trailing_zeros, w64}
 use Rattle.std.proofs.Math.Pow.{pow_mono}
 use Rattle.std.proofs.lemmas.Bool.{cases_lt}
 use Rattle.std.proofs.lemmas.Nat.{shr_le, shr-shr, pow_pos}
-use Rattle.std.proofs.lemmas.Nat.Bits.{bit_at-zero, bit_at-trailing_zeros, bit_at_above, bit_at_ones, bit_at_ones_above, same_from_bits}
+use Rattle.std.proofs.lemmas.Nat.Bits.{bit_at-zero, bit_at-trailing_zeros, bit_at_above, bit_at_ones, bit_at_ones_above, same_from_bits, bit_at_or, bit_at_and, bit_at_not, bit_at-lt, bit_at_mask_inside, bit_at_mask_below, bit_at_mask_above}
 
 pub shifted : (word from i : ℕ) → bit_at (word / 2 ^ from) i ≡ bit_at word (from + i)
 shifted word from i = ap (λ x. x % 2) (shr-shr word from i)
@@ -45,9 +45,32 @@ first_one word from fits some = record {
 -- ones, shifted so far that this many are left
 pub ones_left : (to : ℕ) → to ≤ 64 → (2 ^ 64 - 1) / 2 ^ (64 - to) ≡ 2 ^ to - 1
 ones_left to within = same_from_bits ((2 ^ 64 - 1) / 2 ^ (64 - to)) (2 ^ to - 1) (λ i. shifted (2 ^ 64 - 1) (64 - to) i ∙ ⊎_elim
-  (λ low. bit_at_ones 64 (64 - to + i) (omega arith) ∙ sym (bit_at_ones to i low))
-  (λ high. bit_at_ones_above 64 (64 - to + i) (omega arith) ∙ sym (bit_at_ones_above to i high)) (cases_lt i to))
+    (λ low. bit_at_ones 64 (64 - to + i) (omega arith) ∙ sym (bit_at_ones to i low))
+    (λ high. bit_at_ones_above 64 (64 - to + i) (omega arith) ∙ sym (bit_at_ones_above to i high)) (cases_lt i to))
 
 -- ones from one place up to another
 pub ones_between : (from to : ℕ) → from < to → (2 ^ from - 1 ≤ 2 ^ to - 1) × (2 ^ to - 1 - (2 ^ from - 1) ≡ 2 ^ to - 2 ^ from)
 ones_between from to before = let more : 2 ^ from ≤ 2 ^ to = pow_mono (omega arith) in (omega (arith, more, pow_pos from), omega (arith, more, pow_pos from))
+
+-- a word with a mask of ones, and without one
+module _ (word from to i : ℕ) where
+  pub or_inside : from ≤ i → i < to → bit_at (bit_or word (2 ^ to - 2 ^ from)) i ≡ 1
+  or_inside behind before = bit_at_or word (2 ^ to - 2 ^ from) i ∙ omega (arith, bit_at_mask_inside from to i behind before, bit_at-lt word i)
+
+  pub or_before : i < from → bit_at (bit_or word (2 ^ to - 2 ^ from)) i ≡ bit_at word i
+  or_before before = bit_at_or word (2 ^ to - 2 ^ from) i ∙ omega (arith, bit_at_mask_below from to i before)
+
+  pub or_after : to ≤ i → bit_at (bit_or word (2 ^ to - 2 ^ from)) i ≡ bit_at word i
+  or_after after = bit_at_or word (2 ^ to - 2 ^ from) i ∙ omega (arith, bit_at_mask_above from to i after)
+
+  cleared : i < 64 → 2 ^ to - 2 ^ from < 2 ^ 64 → bit_at (bit_and word (bit_not w64 (2 ^ to - 2 ^ from))) i ≡ min (bit_at word i) (1 - bit_at (2 ^ to - 2 ^ from) i)
+  cleared low fits = bit_at_and word (bit_not w64 (2 ^ to - 2 ^ from)) i ∙ ap (min (bit_at word i)) (bit_at_not w64 (2 ^ to - 2 ^ from) i fits low)
+
+  pub and_inside : i < 64 → 2 ^ to - 2 ^ from < 2 ^ 64 → from ≤ i → i < to → bit_at (bit_and word (bit_not w64 (2 ^ to - 2 ^ from))) i ≡ 0
+  and_inside low fits behind before = cleared low fits ∙ omega (arith, bit_at_mask_inside from to i behind before, bit_at-lt word i)
+
+  pub and_before : i < 64 → 2 ^ to - 2 ^ from < 2 ^ 64 → i < from → bit_at (bit_and word (bit_not w64 (2 ^ to - 2 ^ from))) i ≡ bit_at word i
+  and_before low fits before = cleared low fits ∙ omega (arith, bit_at_mask_below from to i before, bit_at-lt word i)
+
+  pub and_after : i < 64 → 2 ^ to - 2 ^ from < 2 ^ 64 → to ≤ i → bit_at (bit_and word (bit_not w64 (2 ^ to - 2 ^ from))) i ≡ bit_at word i
+  and_after low fits after = cleared low fits ∙ omega (arith, bit_at_mask_above from to i after, bit_at-lt word i)

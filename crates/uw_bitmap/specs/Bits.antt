@@ -1,5 +1,5 @@
 -- The bitmap of a region: which of its blocks are marked (own rule).
-use Rattle.std.specs.Prelude.{◌≡◌, ℕ, zero, suc, ◌+◌, ◌-◌, ◌/◌, ◌%◌, ◌<◌, ◌≤◌, Bool, false, ◌&&◌, ◌==◌, nat_lt, nat_le, List, [], if◌then◌else◌}
+use Rattle.std.specs.Prelude.{◌≡◌, ℕ, ◌+◌, ◌-◌, ◌/◌, ◌%◌, ◌<◌, ◌≤◌, Bool, false, ◌&&◌, ◌==◌, nat_lt, nat_le, List, [], if◌then◌else◌}
 use Rattle.std.specs.Int.{bit_at}
 use Rattle.uw_words.specs.declared.shape.Shape.{Shape}
 use Rattle.uw_words.specs.Numbers.{places_from}
@@ -32,5 +32,8 @@ ChangesRun value before now first n = (block : ℕ) → now block ≡ (if is_in_
 
 -- the places of the words that have the bits of a run
 abbrev pub run_places : Shape → (first n : ℕ) → List ℕ
-run_places shape first zero = []
-run_places shape first (suc n) = places_from (word_of shape first) ((first + n) / 64 + 1 - first / 64)
+run_places shape first n = if n == 0 then [] else places_from (word_of shape first) ((first + n - 1) / 64 + 1 - first / 64)
+
+-- the place is a word of the bitmap
+abbrev pub IsBitmapPlace : Shape → ℕ → Type 0
+IsBitmapPlace shape at = (shape.bitmap ≤ at) × (at < shape.chains)

@@ -1,5 +1,5 @@
 // Bits of one word.
-ghost use Rattle.std.specs.Prelude.{◌≡◌, ◌<◌, ◌≤◌, ◌-◌, ◌^◌, ℕ};
+ghost use Rattle.std.specs.Prelude.{◌≡◌, ◌<◌, ◌≤◌, ◌-◌, ◌^◌, ◌==◌, ℕ};
 ghost use Rattle.std.specs.Int.{bit_at};
 
 /// How many bits a word has.
@@ -34,10 +34,21 @@ pub(crate) fn next_zero(word: u64, from: u64) -> u64
     next_one(!word, from)
 }
 
-// The word whose bits are 1 from one place up to another.
-pub(crate) fn mask(from: u64, to: u64) -> u64
+// The word whose bits are 1 just from one place up to another.
+fn mask(from: u64, to: u64) -> u64
     requires { (from < to) × (to ≤ 64) }
     ensures { result ≡ 2 ^ to - 2 ^ from }
 {
     (u64::MAX >> (BITS - to)) - ((1 << from) - 1)
+}
+
+// The word with this bit from one place up to another, and its own elsewhere.
+pub(crate) fn with_bits(word: u64, from: u64, to: u64, value: bool) -> u64
+    requires { (from < to) × (to ≤ 64) }
+    ensures inside { (i : ℕ) → from ≤ i → i < to → (bit_at result i == 1) ≡ value }
+    ensures before { (i : ℕ) → i < from → bit_at result i ≡ bit_at word i }
+    ensures after { (i : ℕ) → to ≤ i → i < 64 → bit_at result i ≡ bit_at word i }
+{
+    let bits = mask(from, to);
+    if value { word | bits } else { word & !bits }
 }

@@ -4,7 +4,7 @@ ghost use Rattle.uw_words.specs.Shapes.{IsShape, region_words};
 ghost use Rattle.uw_words.specs.Parts.{seen, GrewAt, HasRoom};
 ghost use Rattle.uw_bitmap.specs.Bits.{ChangesRun, is_marked, run_places};
 
-use crate::bits::{BITS, mask};
+use crate::bits::{BITS, with_bits};
 use uw_words::{Overlay, Ram, Shape};
 
 /// Plans the words by which so many blocks from a first one on are marked. Takes no memory.
@@ -31,10 +31,7 @@ pub fn unmark(ram: &Ram, over: &mut Overlay, shape: &Shape, first: u64, n: u64)
     change(ram, over, shape, first, n, false);
 }
 
-fn changed(word: u64, bits: u64, value: bool) -> u64 {
-    if value { word | bits } else { word & !bits }
-}
-
+// Plans the words by which a run has this mark.
 fn change(ram: &Ram, over: &mut Overlay, shape: &Shape, first: u64, n: u64, value: bool)
     requires shape { IsShape shape.now }
     requires len { length ram.now ≡ region_words shape.now }
@@ -43,14 +40,16 @@ fn change(ram: &Ram, over: &mut Overlay, shape: &Shape, first: u64, n: u64, valu
     ensures bits { ChangesRun value (is_marked (seen over.old ram.now) shape.now) (is_marked (seen over.new ram.now) shape.now) first n }
     ensures places { GrewAt (run_places shape.now first n) over.old over.new }
 {
+    if n == 0 {
+        return;
+    }
     let end = first + n;
-    let mut at = first;
-    while at < end {
-        let base = at - at % BITS;
-        let stop = end.min(base + BITS);
-        let place = shape.bitmap + at / BITS;
-        let word = over.load(ram, place);
-        over.put(place, changed(word, mask(at - base, stop - base), value));
-        at = stop;
+    let words = (end - 1) / BITS + 1;
+    for index in first / BITS..words {
+        let base = BITS * index;
+        let from = first.max(base) - base;
+        let to = end.min(base + BITS) - base;
+        let word = over.load(ram, shape.bitmap + index);
+        over.put(shape.bitmap + index, with_bits(word, from, to, value));
     }
 }

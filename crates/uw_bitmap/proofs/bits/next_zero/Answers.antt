@@ -1,5 +1,5 @@
-use Rattle.std.proofs.Common.{◌≡◌, ◌<◌, ◌≤◌, ◌-◌, ◌^◌, ℕ, arith}
-use Rattle.std.specs.Int.{bit_at, w64}
+use Rattle.std.proofs.Common.{arith}
+use Rattle.std.specs.Int.{w64}
 use Rattle.std.proofs.lemmas.Nat.Bits.{bit_at_not, bit_at-lt}
 use Rattle.uw_bitmap.proofs.bits.next_zero.Goals as goal
 

@@ -1,10 +1,10 @@
-use Rattle.std.proofs.Common.{◌≡◌, ℕ, ◌+◌, ◌-◌, ◌*◌, ◌<◌, ◌≤◌, ◌/◌, ◌%◌, ◌^◌, sym, ap, arith, inl, inr}
+use Rattle.std.proofs.Common.{ℕ, ◌<◌, sym, ap, arith, inl, inr}
 use Rattle.std.specs.Int.{bit_at}
 use Rattle.std.proofs.lemmas.Bool.{cases_eq}
 use Rattle.uw_words.specs.Parts.{seen}
 use Rattle.uw_bitmap.specs.Bits.{is_marked}
 use Rattle.uw_bitmap.proofs.Searches.{none_within, none_left}
-use Rattle.uw_bitmap.proofs.Steps.{few_blocks, over_full_word, over_free_bits, over_marked_bits, at_enough}
+use Rattle.uw_bitmap.proofs.Steps.{few_blocks, over_full_word, over_marked_bits, at_enough}
 use Rattle.uw_bitmap.proofs.search.first_run.Goals as goal
 use Rattle.uw_bitmap.proofs.search.first_run.Goals.{After-next_zero}
 
@@ -29,14 +29,14 @@ overflow_add-at-then-marked-lt-BITS c = record { fits = omega (arith, few_blocks
 
 pub loop-at-preserved-then-marked-lt-BITS : goal.loop-at-preserved-then-marked-lt-BITS
 loop-at-preserved-then-marked-lt-BITS c = over_marked_bits (seen c.args.over.now c.args.ram.now) c.args.shape.now c.args.n c.loop-at.start c.loop-at.at c.load-word.result (omega (arith, c.if-n-eq0.false)) (sym c.load-word.ensures) c.loop-at.invariant
-  c.next_one-marked.result c.next_zero.result c.next_one-marked.ensures.from (more c) c.next_zero.ensures.within c.next_one-marked.ensures.zeros (omega (arith, c.if-n-at.false)) c.next_zero.ensures.ones
+    c.next_one-marked.result c.next_zero.result c.next_one-marked.ensures.from (more c) c.next_zero.ensures.within c.next_one-marked.ensures.zeros (omega (arith, c.if-n-at.false)) c.next_zero.ensures.ones
 
 pub returns-then-shape-start-clause-none : goal.returns-then-shape-start-clause-none
 returns-then-shape-start-clause-none c = λ none first run. none_within (is_marked (seen c.args.over.now c.args.ram.now) c.args.shape.now) c.args.n c.args.shape.now.n_blocks c.loop-at.start c.loop-at.at first c.loop-at.invariant (omega arith) run
 
 pub returns-then-n-at-clause-some : goal.returns-then-n-at-clause-some
 returns-then-n-at-clause-some c = at_enough (seen c.args.over.now c.args.ram.now) c.args.shape.now c.args.n c.loop-at.start c.loop-at.at c.load-word.result (omega (arith, c.if-n-eq0.false)) (sym c.load-word.ensures) c.loop-at.invariant
-  c.next_one-marked.result c.next_one-marked.ensures.from c.next_one-marked.ensures.within c.next_one-marked.ensures.zeros (omega (arith, c.if-n-at.true)) (omega arith)
+    c.next_one-marked.result c.next_one-marked.ensures.from c.next_one-marked.ensures.within c.next_one-marked.ensures.zeros (omega (arith, c.if-n-at.true)) (omega arith)
 
 pub returns-clause-none : goal.returns-clause-none
 returns-clause-none c = λ none first run. none_left (is_marked (seen c.args.over.now c.args.ram.now) c.args.shape.now) c.args.n c.args.shape.now.n_blocks c.loop-at.start c.loop-at.at first c.loop-at.invariant (omega (arith, c.loop-at-test.false)) run
