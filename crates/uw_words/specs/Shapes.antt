@@ -17,6 +17,7 @@ pub record IsShape (shape : Shape) : Type 0 where
   pub intent : shape.intent ≡ shape.blocks + shape.n_blocks * shape.block_words
   pub within : shape.intent + shape.room < 2 ^ 63
   pub some_chain : 0 < shape.n_chains
+  pub some_block_word : 0 < shape.block_words
 
 -- how many words the region has
 abbrev pub region_words : Shape → ℕ
