@@ -1,7 +1,7 @@
 -- A search for a free run goes on.
 use Rattle.std.proofs.Common.{◌≡◌, ⊎_elim, ℕ, ◌+◌, ◌-◌, ◌<◌, ◌≤◌, Bool, true, false, sym, ap, ◌∙◌, arith}
 use Rattle.std.proofs.lemmas.Bool.{cases_lt}
-use Rattle.uw_bitmap.specs.Bits.{IsFreeRun, IsLeastRun}
+use Rattle.uw_bitmap.specs.Bits.{IsFreeRun, IsLeastFreeRun}
 use Rattle.uw_bitmap.specs.SearchSteps.{IsSought}
 
 module _ (marked : ℕ → Bool) (n : ℕ) where
@@ -39,7 +39,7 @@ module _ (marked : ℕ → Bool) (n : ℕ) where
       grind (arith, other)
 
   -- enough blocks are unmarked
-  pub found : (blocks start at next : ℕ) → IsSought marked n start at → n ≤ next - start → ((block : ℕ) → at ≤ block → block < next → marked block ≡ false) → start + n ≤ blocks → IsLeastRun marked blocks start n
+  pub found : (blocks start at next : ℕ) → IsSought marked n start at → n ≤ next - start → ((block : ℕ) → at ≤ block → block < next → marked block ≡ false) → start + n ≤ blocks → IsLeastFreeRun marked blocks start n
   found blocks start at next s enough unmarked within = record {
     run = record { within = within; free = λ i h. ⊎_elim (λ below. s.free (start + i) (omega arith) below) (λ above. unmarked (start + i) above (omega arith)) (cases_lt (start + i) at) };
     least = λ earlier before run. no_run_before blocks start at earlier s before run;

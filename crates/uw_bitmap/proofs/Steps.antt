@@ -5,7 +5,7 @@ use Rattle.std.proofs.Math.Nat.{le-mul_of_pos_right}
 use Rattle.std.proofs.lemmas.Nat.Bits.{bit_at_ones}
 use Rattle.uw_words.specs.declared.shape.Shape.{Shape}
 use Rattle.uw_words.specs.Shapes.{IsShape}
-use Rattle.uw_bitmap.specs.Bits.{is_marked, IsLeastRun}
+use Rattle.uw_bitmap.specs.Bits.{is_marked, IsLeastFreeRun}
 use Rattle.uw_bitmap.specs.SearchSteps.{IsSought}
 use Rattle.uw_bitmap.proofs.Blocks.{marks_are}
 use Rattle.uw_bitmap.proofs.Searches.{longer, passed, found}
@@ -44,5 +44,5 @@ module _ (reader : ℕ → ℕ) (shape : Shape) (n start at word : ℕ) (some : 
 
   -- its blocks up to a place are unmarked, and enough
   pub at_enough : (one : ℕ) → at % 64 ≤ one → one ≤ 64 → ((i : ℕ) → at % 64 ≤ i → i < one → bit_at word i ≡ 0) → n ≤ at - at % 64 + one - start
-      → start + n ≤ shape.n_blocks → IsLeastRun (is_marked reader shape) shape.n_blocks start n
+      → start + n ≤ shape.n_blocks → IsLeastFreeRun (is_marked reader shape) shape.n_blocks start n
   at_enough one on within zeros enough fits = found (is_marked reader shape) n shape.n_blocks start at (at - at % 64 + one) sought enough (unmarked one on within zeros) fits

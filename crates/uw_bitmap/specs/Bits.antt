@@ -22,7 +22,7 @@ pub record IsFreeRun (marked : ℕ → Bool) (blocks first n : ℕ) : Type 0 whe
   pub free : (i : ℕ) → i < n → marked (first + i) ≡ false
 
 -- no free run of so many blocks begins before this one
-pub record IsLeastRun (marked : ℕ → Bool) (blocks first n : ℕ) : Type 0 where
+pub record IsLeastFreeRun (marked : ℕ → Bool) (blocks first n : ℕ) : Type 0 where
   pub run : IsFreeRun marked blocks first n
   pub least : (earlier : ℕ) → earlier < first → IsFreeRun marked blocks earlier n → ⊥
 

@@ -4,7 +4,7 @@ ghost use Rattle.uw_words.specs.declared.shape.Shape.{Shape};
 ghost use Rattle.uw_words.specs.Shapes.{IsShape};
 ghost use Rattle.uw_words.specs.Numbers.{IsOneOf};
 ghost use Rattle.uw_words.specs.Parts.{DependsOn};
-ghost use Rattle.uw_bitmap.specs.Bits.{IsLeastRun, is_marked, run_places, IsBitmapPlace};
+ghost use Rattle.uw_bitmap.specs.Bits.{IsLeastFreeRun, is_marked, run_places, IsBitmapPlace};
 
 /// Which blocks are marked depends on the words of the bitmap alone.
 pub fn marks_depend_on_the_bitmap()
@@ -25,6 +25,6 @@ pub fn run_places_are_few()
 
 /// Two searches of the same marks give the same run.
 pub fn least_run_is_one()
-    ensures { (marked : ℕ → Bool) (blocks n first second : ℕ) → IsLeastRun marked blocks first n → IsLeastRun marked blocks second n
+    ensures { (marked : ℕ → Bool) (blocks n first second : ℕ) → IsLeastFreeRun marked blocks first n → IsLeastFreeRun marked blocks second n
         → first ≡ second }
 {}

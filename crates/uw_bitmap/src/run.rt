@@ -1,6 +1,6 @@
 // Runs that are marked and unmarked.
 ghost use Rattle.std.specs.Prelude.{◌≡◌, ◌+◌, ◌<◌, ◌≤◌, ℕ, length, true, false};
-ghost use Rattle.uw_words.specs.Shapes.{IsShape, region_words};
+ghost use Rattle.uw_words.specs.Shapes.{IsShape, shape_words};
 ghost use Rattle.uw_words.specs.Parts.{seen, GrewAt, HasRoom};
 ghost use Rattle.uw_bitmap.specs.Bits.{ChangesRun, is_marked, run_places};
 
@@ -10,7 +10,7 @@ use uw_words::{Overlay, Ram, Shape};
 /// Plans the words by which so many blocks from a first one on are marked. Takes no memory.
 pub fn mark(ram: &Ram, over: &mut Overlay, shape: &Shape, first: u64, n: u64)
     requires shape { IsShape shape.now }
-    requires len { length ram.now ≡ region_words shape.now }
+    requires len { length ram.now ≡ shape_words shape.now }
     requires run { first + n ≤ shape.now.n_blocks }
     requires room { HasRoom over.old (run_places shape.now first n) }
     ensures bits { ChangesRun true (is_marked (seen over.old ram.now) shape.now) (is_marked (seen over.new ram.now) shape.now) first n }
@@ -22,7 +22,7 @@ pub fn mark(ram: &Ram, over: &mut Overlay, shape: &Shape, first: u64, n: u64)
 /// Plans the words by which so many blocks from a first one on are unmarked. Takes no memory.
 pub fn unmark(ram: &Ram, over: &mut Overlay, shape: &Shape, first: u64, n: u64)
     requires shape { IsShape shape.now }
-    requires len { length ram.now ≡ region_words shape.now }
+    requires len { length ram.now ≡ shape_words shape.now }
     requires run { first + n ≤ shape.now.n_blocks }
     requires room { HasRoom over.old (run_places shape.now first n) }
     ensures bits { ChangesRun false (is_marked (seen over.old ram.now) shape.now) (is_marked (seen over.new ram.now) shape.now) first n }
@@ -34,7 +34,7 @@ pub fn unmark(ram: &Ram, over: &mut Overlay, shape: &Shape, first: u64, n: u64)
 // Plans the words by which a run has this mark.
 fn change(ram: &Ram, over: &mut Overlay, shape: &Shape, first: u64, n: u64, value: bool)
     requires shape { IsShape shape.now }
-    requires len { length ram.now ≡ region_words shape.now }
+    requires len { length ram.now ≡ shape_words shape.now }
     requires run { first + n ≤ shape.now.n_blocks }
     requires room { HasRoom over.old (run_places shape.now first n) }
     ensures bits { ChangesRun value (is_marked (seen over.old ram.now) shape.now) (is_marked (seen over.new ram.now) shape.now) first n }

@@ -1,8 +1,8 @@
 // The least free run.
 ghost use Rattle.std.specs.Prelude.{◌≡◌, ℕ, length, None, IfSome};
-ghost use Rattle.uw_words.specs.Shapes.{IsShape, region_words};
+ghost use Rattle.uw_words.specs.Shapes.{IsShape, shape_words};
 ghost use Rattle.uw_words.specs.Parts.{seen};
-ghost use Rattle.uw_bitmap.specs.Bits.{IsFreeRun, IsLeastRun, is_marked};
+ghost use Rattle.uw_bitmap.specs.Bits.{IsFreeRun, IsLeastFreeRun, is_marked};
 
 use crate::bits::{BITS, next_one, next_zero};
 use uw_words::{Overlay, Ram, Shape};
@@ -11,8 +11,8 @@ use uw_words::{Overlay, Ram, Shape};
 /// Full words are passed over by one comparison each. Takes no memory.
 pub fn first_run(ram: &Ram, over: &Overlay, shape: &Shape, n: u64) -> Option<u64>
     requires shape { IsShape shape.now }
-    requires len { length ram.now ≡ region_words shape.now }
-    ensures some { IfSome result (λ first. IsLeastRun (is_marked (seen over.now ram.now) shape.now) shape.now.n_blocks first n) }
+    requires len { length ram.now ≡ shape_words shape.now }
+    ensures some { IfSome result (λ first. IsLeastFreeRun (is_marked (seen over.now ram.now) shape.now) shape.now.n_blocks first n) }
     ensures none { result ≡ None
         → (first : ℕ) → IsFreeRun (is_marked (seen over.now ram.now) shape.now) shape.now.n_blocks first n → ⊥ }
 {

@@ -1,6 +1,6 @@
 // Runs of blocks in small bitmaps.
 ghost use Rattle.std.specs.Prelude.{◌≡◌, ◌<◌, ◌^◌, length};
-ghost use Rattle.uw_words.specs.Shapes.{IsShape, region_words};
+ghost use Rattle.uw_words.specs.Shapes.{IsShape, shape_words};
 
 use crate::{first_run, laws, mark, unmark};
 use std::alloc::Global;
@@ -35,7 +35,7 @@ fn shape_of(blocks: u64) -> Shape
 // Marks or unmarks a run of at most 128 blocks, where it exists.
 fn change(ram: &Ram, over: &mut Overlay, shape: &Shape, run: (u64, u64), value: bool)
     requires shape { IsShape shape.now }
-    requires len { length ram.now ≡ region_words shape.now }
+    requires len { length ram.now ≡ shape_words shape.now }
 {
     let (first, n) = run;
     if n > 128 || n > shape.n_blocks || first > shape.n_blocks - n || over.spare() < 3 {

@@ -69,7 +69,7 @@ place_away shape at [] item other first links = first
 place_away shape at (x ∷ items) item other first links = elim (cases_eq x item) [
   | inl same ↦ (let here : place_before shape at (x ∷ items) item ≡ at = grind (arith, nat_tests) in λ e. first (sym here ∙ e))
   | inr apart ↦ (let there : place_before shape at (x ∷ items) item ≡ place_before shape (link_of shape x) items item = grind (arith, nat_tests) in
-  λ e. place_away shape (link_of shape x) items item other (links x (inl refl)) (λ one among. links one (inr among)) (sym there ∙ e))
+      λ e. place_away shape (link_of shape x) items item other (links x (inl refl)) (λ one among. links one (inr among)) (sym there ∙ e))
 ]
 
 pub place_is : (shape : Shape) (at : ℕ) (items : List ℕ) (item : ℕ) → (place_before shape at items item ≡ at) ⊎ ((one : ℕ) × (IsOneOf items one × (place_before shape at items item ≡ link_of shape one)))
@@ -77,10 +77,10 @@ place_is shape at [] item = inl refl
 place_is shape at (x ∷ items) item = elim (cases_eq x item) [
   | inl same ↦ inl (let here : place_before shape at (x ∷ items) item ≡ at = grind (arith, nat_tests) in here)
   | inr apart ↦ (let there : place_before shape at (x ∷ items) item ≡ place_before shape (link_of shape x) items item = grind (arith, nat_tests) in
-  elim (place_is shape (link_of shape x) items item) [
-    | inl first ↦ inr (x, (inl refl, there ∙ first))
-    | inr later ↦ inr (later.0, (inr later.1.0, there ∙ later.1.1))
-  ])
+      elim (place_is shape (link_of shape x) items item) [
+        | inl first ↦ inr (x, (inl refl, there ∙ first))
+        | inr later ↦ inr (later.0, (inr later.1.0, there ∙ later.1.1))
+      ])
 ]
 
 -- what the laws say

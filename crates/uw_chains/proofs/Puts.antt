@@ -20,7 +20,7 @@ head_of shape reader item link hash head link_is hash_is head_is =
     head_is ∙ ap (λ (h : ℕ). chain_place shape (h % shape.n_chains)) (hash_is ∙ ap (λ (l : ℕ). reader (l + 7)) link_is)
 
 module _ (shape : Shape) (plan : Plan) (words : List ℕ) (item link head first : ℕ) (link_is : link ≡ link_of shape item)
-  (head_is : head ≡ chain_place shape (item_chain (seen plan words) shape item)) (first_is : first ≡ seen plan words head) where
+    (head_is : head ≡ chain_place shape (item_chain (seen plan words) shape item)) (first_is : first ≡ seen plan words head) where
   places_are : link_places (seen plan words) shape item ≡ link ∷ head ∷ []
   places_are =
       ap (λ (l : ℕ). l ∷ chain_place shape (item_chain (seen plan words) shape item) ∷ []) (sym link_is)
