@@ -1,10 +1,10 @@
 -- An item leaves its chain.
-use Rattle.std.proofs.Common.{◌≡◌, ◌≢◌, ◌⊎◌, inl, inr, ℕ, ◌+◌, ◌%◌, ◌<◌, ◌≤◌, cond, eqb, List, [], ◌∷◌, refl, sym, ap, ◌∙◌, subst, arith}
+use Rattle.std.proofs.Common.{◌≡◌, ◌≢◌, inl, inr, ℕ, ◌+◌, ◌<◌, List, [], ◌∷◌, refl, sym, ap, ◌∙◌, subst, arith}
 use Rattle.std.proofs.lemmas.Bool.{cases_eq}
 use Rattle.std.proofs.lemmas.Bool.Decides.{nat_tests}
 use Rattle.uw_words.specs.declared.shape.Shape.{Shape}
 use Rattle.uw_words.specs.Shapes.{IsShape}
-use Rattle.uw_words.specs.Numbers.{IsOneOf, IsNoneOf, AreDistinct, without_number}
+use Rattle.uw_words.specs.Numbers.{IsOneOf, AreDistinct, without_number}
 use Rattle.uw_words.specs.Walks.{link_of, item_word, IsWalk}
 use Rattle.uw_words.specs.Records.{HoldsKey}
 use Rattle.uw_words.proofs.Links.{walk_same}
@@ -44,9 +44,9 @@ module _ (shape : Shape) (shaped : IsShape shape) (before now : ℕ → ℕ) (it
   ]
 
 module _ (shape : Shape) (shaped : IsShape shape) (before now : ℕ → ℕ) (chains : ℕ → List ℕ) (item : ℕ) (is : IsChains before shape chains)
-  (one : IsOneOf (chains (item_chain before shape item)) item)
-  (put : now (place_before shape (chain_place shape (item_chain before shape item)) (chains (item_chain before shape item)) item) ≡ before (link_of shape item))
-  (others : (other : ℕ) → other ≢ place_before shape (chain_place shape (item_chain before shape item)) (chains (item_chain before shape item)) item → now other ≡ before other) where
+    (one : IsOneOf (chains (item_chain before shape item)) item)
+    (put : now (place_before shape (chain_place shape (item_chain before shape item)) (chains (item_chain before shape item)) item) ≡ before (link_of shape item))
+    (others : (other : ℕ) → other ≢ place_before shape (chain_place shape (item_chain before shape item)) (chains (item_chain before shape item)) item → now other ≡ before other) where
   stays : (other : ℕ) → chain_place shape (item_chain before shape item) ≢ other → ((i : ℕ) → IsOneOf (chains (item_chain before shape item)) i → link_of shape i ≢ other) → now other ≡ before other
   stays other first links =
       others other (λ e. place_away shape (chain_place shape (item_chain before shape item)) (chains (item_chain before shape item)) item other first links (sym e))

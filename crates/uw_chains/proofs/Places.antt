@@ -1,17 +1,15 @@
 -- The places of the chains and of their items are apart.
-use Rattle.std.proofs.Common.{◌≡◌, ◌≢◌, ◌⊎◌, inl, inr, ℕ, ◌+◌, ◌*◌, ◌%◌, ◌<◌, ◌≤◌, cond, eqb, List, [], ◌∷◌, refl, sym, ap, ◌∙◌, subst, arith}
+use Rattle.std.proofs.Common.{◌≡◌, ◌≢◌, ◌⊎◌, inl, inr, ℕ, ◌+◌, ◌%◌, ◌<◌, ◌≤◌, List, [], ◌∷◌, refl, sym, ap, ◌∙◌, subst, arith}
 use Rattle.std.proofs.lemmas.Bool.{cases_eq}
 use Rattle.std.proofs.lemmas.Bool.Decides.{nat_tests}
-use Rattle.uw_base.specs.Numbers.{djb33x_of}
 use Rattle.uw_words.specs.declared.shape.Shape.{Shape}
 use Rattle.uw_words.specs.Shapes.{IsShape}
-use Rattle.uw_words.specs.Numbers.{IsOneOf, IsNoneOf}
+use Rattle.uw_words.specs.Numbers.{IsOneOf}
 use Rattle.uw_words.specs.Parts.{AgreeOn}
 use Rattle.uw_words.specs.Walks.{link_of, item_word, IsWalk}
 use Rattle.uw_words.specs.Records.{HoldsKey}
 use Rattle.uw_words.proofs.Links.{same_item, same_link, walk_once, walk_same}
-use Rattle.uw_words.proofs.Numbers.{not_none}
-use Rattle.uw_chains.specs.Chains.{chain_place, key_chain, item_chain, FallsOn, IsChains, with_chain, link_places, place_before, unlink_places, IsOnChain, IsChainsPlace, IsChainsKeyPlace}
+use Rattle.uw_chains.specs.Chains.{chain_place, key_chain, item_chain, IsChains, with_chain, link_places, place_before, unlink_places, IsChainsPlace, IsChainsKeyPlace}
 
 pub zero_word : (reader : ℕ → ℕ) (shape : Shape) (item : ℕ) → item_word reader shape item 0 ≡ reader (link_of shape item)
 zero_word reader shape item = ap reader (let e : link_of shape item + 0 ≡ link_of shape item = omega arith in e)
@@ -69,7 +67,7 @@ place_away shape at [] item other first links = first
 place_away shape at (x ∷ items) item other first links = elim (cases_eq x item) [
   | inl same ↦ (let here : place_before shape at (x ∷ items) item ≡ at = grind (arith, nat_tests) in λ e. first (sym here ∙ e))
   | inr apart ↦ (let there : place_before shape at (x ∷ items) item ≡ place_before shape (link_of shape x) items item = grind (arith, nat_tests) in
-  λ e. place_away shape (link_of shape x) items item other (links x (inl refl)) (λ one among. links one (inr among)) (sym there ∙ e))
+      λ e. place_away shape (link_of shape x) items item other (links x (inl refl)) (λ one among. links one (inr among)) (sym there ∙ e))
 ]
 
 pub place_is : (shape : Shape) (at : ℕ) (items : List ℕ) (item : ℕ) → (place_before shape at items item ≡ at) ⊎ ((one : ℕ) × (IsOneOf items one × (place_before shape at items item ≡ link_of shape one)))
@@ -77,10 +75,10 @@ place_is shape at [] item = inl refl
 place_is shape at (x ∷ items) item = elim (cases_eq x item) [
   | inl same ↦ inl (let here : place_before shape at (x ∷ items) item ≡ at = grind (arith, nat_tests) in here)
   | inr apart ↦ (let there : place_before shape at (x ∷ items) item ≡ place_before shape (link_of shape x) items item = grind (arith, nat_tests) in
-  elim (place_is shape (link_of shape x) items item) [
-    | inl first ↦ inr (x, (inl refl, there ∙ first))
-    | inr later ↦ inr (later.0, (inr later.1.0, there ∙ later.1.1))
-  ])
+      elim (place_is shape (link_of shape x) items item) [
+        | inl first ↦ inr (x, (inl refl, there ∙ first))
+        | inr later ↦ inr (later.0, (inr later.1.0, there ∙ later.1.1))
+      ])
 ]
 
 -- what the laws say

@@ -1,5 +1,5 @@
 -- The words that a call on the chains puts, as the code reckons their places.
-use Rattle.std.proofs.Common.{◌≡◌, ◌≢◌, ℕ, ◌+◌, ◌%◌, ◌<◌, cond, eqb, List, [], ◌∷◌, get_or, refl, sym, ap, ◌∙◌, subst}
+use Rattle.std.proofs.Common.{◌≡◌, ◌≢◌, ℕ, ◌+◌, ◌%◌, ◌<◌, cond, eqb, List, [], ◌∷◌, get_or, sym, ap, ◌∙◌, subst}
 use Rattle.uw_words.specs.declared.shape.Shape.{Shape}
 use Rattle.uw_words.specs.Shapes.{IsShape}
 use Rattle.uw_words.specs.Plans.{Plan, region}
@@ -20,7 +20,7 @@ head_of shape reader item link hash head link_is hash_is head_is =
     head_is ∙ ap (λ (h : ℕ). chain_place shape (h % shape.n_chains)) (hash_is ∙ ap (λ (l : ℕ). reader (l + 7)) link_is)
 
 module _ (shape : Shape) (plan : Plan) (words : List ℕ) (item link head first : ℕ) (link_is : link ≡ link_of shape item)
-  (head_is : head ≡ chain_place shape (item_chain (seen plan words) shape item)) (first_is : first ≡ seen plan words head) where
+    (head_is : head ≡ chain_place shape (item_chain (seen plan words) shape item)) (first_is : first ≡ seen plan words head) where
   places_are : link_places (seen plan words) shape item ≡ link ∷ head ∷ []
   places_are =
       ap (λ (l : ℕ). l ∷ chain_place shape (item_chain (seen plan words) shape item) ∷ []) (sym link_is)

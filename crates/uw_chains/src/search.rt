@@ -52,10 +52,10 @@ pub fn find(ram: &Ram, over: &Overlay, shape: &Shape, key: &[u8]) -> Option<u64>
     requires chains { HasChains (seen over.now ram.now) shape.now }
     ensures found { (chains : ℕ → List ℕ) → IsChains (seen over.now ram.now) shape.now chains
         → IfSome result (λ item. IsOneOf (chains (key_chain shape.now key.now)) item
-            × HoldsKey (seen over.now ram.now) shape.now item key.now) }
+        × HoldsKey (seen over.now ram.now) shape.now item key.now) }
     ensures none { (chains : ℕ → List ℕ) → IsChains (seen over.now ram.now) shape.now chains
         → IfNone result ((item : ℕ) → IsOneOf (chains (key_chain shape.now key.now)) item
-            → ¬ HoldsKey (seen over.now ram.now) shape.now item key.now) }
+        → ¬ HoldsKey (seen over.now ram.now) shape.now item key.now) }
     ensures within { IfSome result (λ item. item < shape.now.n_items) }
 {
     let hash = djb33x(key);

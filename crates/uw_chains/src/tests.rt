@@ -76,7 +76,15 @@ fn begins(rt: &impl Abort, ram: &Ram, over: &Overlay, shape: &Shape)
 }
 
 // An item joins the chain, which has these items.
-fn joins(rt: &impl Abort, ram: &Ram, over: &mut Overlay, shape: &Shape, item: u64, key: &[u8], list: &[u64])
+fn joins(
+    rt: &impl Abort,
+    ram: &Ram,
+    over: &mut Overlay,
+    shape: &Shape,
+    item: u64,
+    key: &[u8],
+    list: &[u64],
+)
     requires shape { IsShape shape.now }
     requires region { length ram.now ≡ region_words shape.now }
     requires item { item < shape.now.n_items }
@@ -114,7 +122,11 @@ fn finds(rt: &impl Abort, ram: &Ram, over: &Overlay, shape: &Shape, keys: &[&[u8
 {
     for k in 0..keys.len() {
         let item = k as u64;
-        let want = if list.contains(&item) { Some(item) } else { None };
+        let want = if list.contains(&item) {
+            Some(item)
+        } else {
+            None
+        };
         assert_eq!(rt; find(ram, over, shape, keys[k]), want, "{k}");
     }
 }

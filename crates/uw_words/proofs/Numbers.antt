@@ -74,5 +74,5 @@ one_of_without [] number other one = one
 one_of_without (first ∷ numbers) number other one = elim (cases_eq first number) [
   | inl same ↦ (let e : without_number (first ∷ numbers) number ≡ numbers = grind (arith, nat_tests) in inr (subst (λ (l : List ℕ). IsOneOf l other) e one))
   | inr apart ↦ (let e : without_number (first ∷ numbers) number ≡ first ∷ without_number numbers number = grind (arith, nat_tests) in
-  ⊎_elim (λ here. inl here) (λ later. inr (one_of_without numbers number other later)) (subst (λ (l : List ℕ). IsOneOf l other) e one))
+      ⊎_elim (λ here. inl here) (λ later. inr (one_of_without numbers number other later)) (subst (λ (l : List ℕ). IsOneOf l other) e one))
 ]

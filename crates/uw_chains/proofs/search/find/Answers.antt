@@ -43,7 +43,7 @@ returns-then-holds_key-clause-found c = λ chains is.
     some_more c.item_of.result P Q
     (λ item at. (
       search_found shape c.requires.shape reader key c.loop.link c.loop.counter c.loop.invariant c.if-link-eq0.false item at.1 (chains (key_chain shape key))
-      (is.walk (key_chain shape key) (key_short shape c.requires.shape key)),
+          (is.walk (key_chain shape key) (key_short shape c.requires.shape key)),
       (c.holds_key.ensures item at.1).0 c.if-holds_key.true,
     ))
     c.item_of.ensures.item
