@@ -1,6 +1,6 @@
 // Items join their chains and leave them.
 ghost use Rattle.std.specs.Prelude.{◌≡◌, ◌<◌, ◌%◌, ◌∷◌, ℕ, List, [], length};
-ghost use Rattle.uw_words.specs.Shapes.{IsShape, region_words};
+ghost use Rattle.uw_words.specs.Shapes.{IsShape, shape_words};
 ghost use Rattle.uw_words.specs.Numbers.{IsOneOf, IsNoneOf, without_number};
 ghost use Rattle.uw_words.specs.Parts.{seen, HasRoom, GrewAt};
 ghost use Rattle.uw_words.specs.Records.{HoldsSomeKey};
@@ -20,7 +20,7 @@ pub(crate) fn chain_place(shape: &Shape, hash: u64) -> u64
 /// Plans an item, which holds a key and is on no chain, as the first one of its key's chain.
 pub fn link(ram: &Ram, over: &mut Overlay, shape: &Shape, item: u64)
     requires shape { IsShape shape.now }
-    requires region { length ram.now ≡ region_words shape.now }
+    requires region { length ram.now ≡ shape_words shape.now }
     requires item { item < shape.now.n_items }
     requires key { HoldsSomeKey (seen over.old ram.now) shape.now item }
     requires unchained { IsUnchained (seen over.old ram.now) shape.now item }
@@ -41,7 +41,7 @@ pub fn link(ram: &Ram, over: &mut Overlay, shape: &Shape, item: u64)
 // The place of the link to an item on its chain.
 fn place_to(ram: &Ram, over: &Overlay, shape: &Shape, item: u64) -> u64
     requires shape { IsShape shape.now }
-    requires region { length ram.now ≡ region_words shape.now }
+    requires region { length ram.now ≡ shape_words shape.now }
     requires item { item < shape.now.n_items }
     requires chained { IsChained (seen over.now ram.now) shape.now item }
     ensures { (chains : ℕ → List ℕ) → IsChains (seen over.now ram.now) shape.now chains
@@ -62,7 +62,7 @@ fn place_to(ram: &Ram, over: &Overlay, shape: &Shape, item: u64) -> u64
 /// Plans a chain without one of its items.
 pub fn unlink(ram: &Ram, over: &mut Overlay, shape: &Shape, item: u64)
     requires shape { IsShape shape.now }
-    requires region { length ram.now ≡ region_words shape.now }
+    requires region { length ram.now ≡ shape_words shape.now }
     requires item { item < shape.now.n_items }
     requires chained { IsChained (seen over.old ram.now) shape.now item }
     requires room { (chains : ℕ → List ℕ) → IsChains (seen over.old ram.now) shape.now chains

@@ -1,7 +1,7 @@
 // An item is found by its key.
 ghost use Rattle.std.specs.Prelude.{◌≡◌, ◌<◌, ◌≤◌, ◌+◌, ◌*◌, ◌^◌, ◌↔◌, ℕ, List, length, IsTrue, IfSome, IfNone};
 ghost use Rattle.uw_base.specs.Numbers.{djb33x_of};
-ghost use Rattle.uw_words.specs.Shapes.{IsShape, region_words};
+ghost use Rattle.uw_words.specs.Shapes.{IsShape, shape_words};
 ghost use Rattle.uw_words.specs.Numbers.{IsOneOf};
 ghost use Rattle.uw_words.specs.Parts.{seen};
 ghost use Rattle.uw_words.specs.Walks.{link_of};
@@ -30,7 +30,7 @@ fn has_words(ram: &Ram, over: &Overlay, at: u64, text: &[u8]) -> bool
 // Whether the item of a link holds a key of this hash.
 fn holds_key(ram: &Ram, over: &Overlay, shape: &Shape, link: u64, key: &[u8], hash: u64) -> bool
     requires shape { IsShape shape.now }
-    requires region { length ram.now ≡ region_words shape.now }
+    requires region { length ram.now ≡ shape_words shape.now }
     requires link { IsKeyLink (seen over.now ram.now) shape.now link }
     requires hash { hash ≡ djb33x_of key.now }
     ensures { (item : ℕ) → link ≡ link_of shape.now item
@@ -48,7 +48,7 @@ fn holds_key(ram: &Ram, over: &Overlay, shape: &Shape, link: u64, key: &[u8], ha
 /// The item that holds a key, none where no item of the key's chain does.
 pub fn find(ram: &Ram, over: &Overlay, shape: &Shape, key: &[u8]) -> Option<u64>
     requires shape { IsShape shape.now }
-    requires region { length ram.now ≡ region_words shape.now }
+    requires region { length ram.now ≡ shape_words shape.now }
     requires chains { HasChains (seen over.now ram.now) shape.now }
     ensures found { (chains : ℕ → List ℕ) → IsChains (seen over.now ram.now) shape.now chains
         → IfSome result (λ item. IsOneOf (chains (key_chain shape.now key.now)) item

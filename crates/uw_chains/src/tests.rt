@@ -1,6 +1,6 @@
 // A chain of up to three items, under each call at each place.
 ghost use Rattle.std.specs.Prelude.{◌≡◌, ◌<◌, ◌∷◌, [], length};
-ghost use Rattle.uw_words.specs.Shapes.{IsShape, region_words};
+ghost use Rattle.uw_words.specs.Shapes.{IsShape, shape_words};
 ghost use Rattle.uw_words.specs.Numbers.{IsOneOf, IsNoneOf, without_number};
 ghost use Rattle.uw_words.specs.Parts.{seen};
 ghost use Rattle.uw_words.specs.Records.{HoldsKey};
@@ -15,7 +15,7 @@ use uw_words::{Overlay, Ram, Shape, first_word};
 // One chain, and four items of nine words from word 18 on.
 fn small_shape() -> Shape
     ensures shape { IsShape result }
-    ensures region { region_words result ≡ 486 }
+    ensures region { shape_words result ≡ 486 }
     ensures items { result.n_items ≡ 4 }
     ensures chain { result.n_chains ≡ 1 }
 {
@@ -53,7 +53,7 @@ fn keyed(rt: &impl Abort, over: &mut Overlay, shape: &Shape, item: u64, key: &[u
 // The item holds the key, as its words say.
 fn holds(rt: &impl Abort, ram: &Ram, over: &Overlay, shape: &Shape, item: u64, key: &[u8])
     requires shape { IsShape shape.now }
-    requires region { length ram.now ≡ region_words shape.now }
+    requires region { length ram.now ≡ shape_words shape.now }
     requires item { item < shape.now.n_items }
     ensures { HoldsKey (seen over.now ram.now) shape.now item key.now }
 {
@@ -68,7 +68,7 @@ fn holds(rt: &impl Abort, ram: &Ram, over: &Overlay, shape: &Shape, item: u64, k
 // The chain has no item, as its word says.
 fn begins(rt: &impl Abort, ram: &Ram, over: &Overlay, shape: &Shape)
     requires shape { IsShape shape.now }
-    requires region { length ram.now ≡ region_words shape.now }
+    requires region { length ram.now ≡ shape_words shape.now }
     requires chain { shape.now.n_chains ≡ 1 }
     ensures { IsChains (seen over.now ram.now) shape.now (λ _. []) }
 {
@@ -86,7 +86,7 @@ fn joins(
     list: &[u64],
 )
     requires shape { IsShape shape.now }
-    requires region { length ram.now ≡ region_words shape.now }
+    requires region { length ram.now ≡ shape_words shape.now }
     requires item { item < shape.now.n_items }
     requires chain { shape.now.n_chains ≡ 1 }
     requires list { IsChains (seen over.old ram.now) shape.now (λ _. list.now) }
@@ -102,7 +102,7 @@ fn joins(
 // An item leaves the chain, which has these items.
 fn leaves(rt: &impl Abort, ram: &Ram, over: &mut Overlay, shape: &Shape, item: u64, list: &[u64])
     requires shape { IsShape shape.now }
-    requires region { length ram.now ≡ region_words shape.now }
+    requires region { length ram.now ≡ shape_words shape.now }
     requires item { item < shape.now.n_items }
     requires chain { shape.now.n_chains ≡ 1 }
     requires list { IsChains (seen over.old ram.now) shape.now (λ _. list.now) }
@@ -117,7 +117,7 @@ fn leaves(rt: &impl Abort, ram: &Ram, over: &mut Overlay, shape: &Shape, item: u
 // The chain has these items, and of the keys just those are found which they hold: the item of each key is its place.
 fn finds(rt: &impl Abort, ram: &Ram, over: &Overlay, shape: &Shape, keys: &[&[u8]], list: &[u64])
     requires shape { IsShape shape.now }
-    requires region { length ram.now ≡ region_words shape.now }
+    requires region { length ram.now ≡ shape_words shape.now }
     requires list { IsChains (seen over.now ram.now) shape.now (λ _. list.now) }
 {
     for k in 0..keys.len() {

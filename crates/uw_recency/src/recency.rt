@@ -1,6 +1,6 @@
 // The list of items by which the least recent one is found.
 ghost use Rattle.std.specs.Prelude.{◌≡◌, ◌<◌, ◌+◌, ◌∷◌, ℕ, List, length, slice_get};
-ghost use Rattle.uw_words.specs.Shapes.{IsShape, region_words};
+ghost use Rattle.uw_words.specs.Shapes.{IsShape, shape_words};
 ghost use Rattle.uw_words.specs.Numbers.{IsOneOf, IsNoneOf, without_number};
 ghost use Rattle.uw_words.specs.Parts.{seen, HasRoom, GrewAt};
 ghost use Rattle.uw_words.specs.Walks.{IsLink};
@@ -29,7 +29,7 @@ fn backward_place(shape: &Shape, link: u64) -> u64
 /// Plans an item that is not on the list as its most recent one.
 pub fn push_front(ram: &Ram, over: &mut Overlay, shape: &Shape, item: u64)
     requires shape { IsShape shape.now }
-    requires region { length ram.now ≡ region_words shape.now }
+    requires region { length ram.now ≡ shape_words shape.now }
     requires item { item < shape.now.n_items }
     requires unlisted { IsUnlisted (seen over.old ram.now) shape.now item }
     requires room { HasRoom over.old (front_places shape.now (seen over.old ram.now (shape.now.head + 6)) item) }
@@ -49,7 +49,7 @@ pub fn push_front(ram: &Ram, over: &mut Overlay, shape: &Shape, item: u64)
 /// Plans the list without one of its items.
 pub fn take_out(ram: &Ram, over: &mut Overlay, shape: &Shape, item: u64)
     requires shape { IsShape shape.now }
-    requires region { length ram.now ≡ region_words shape.now }
+    requires region { length ram.now ≡ shape_words shape.now }
     requires item { item < shape.now.n_items }
     requires listed { IsRecent (seen over.old ram.now) shape.now item }
     requires room { HasRoom over.old (out_places (seen over.old ram.now) shape.now item) }
@@ -69,7 +69,7 @@ pub fn take_out(ram: &Ram, over: &mut Overlay, shape: &Shape, item: u64)
 /// Plans one of the list's items as its most recent one.
 pub fn to_front(ram: &Ram, over: &mut Overlay, shape: &Shape, item: u64)
     requires shape { IsShape shape.now }
-    requires region { length ram.now ≡ region_words shape.now }
+    requires region { length ram.now ≡ shape_words shape.now }
     requires item { item < shape.now.n_items }
     requires listed { IsRecent (seen over.old ram.now) shape.now item }
     requires room { HasRoom over.old (to_front_places (seen over.old ram.now) shape.now item) }
@@ -84,7 +84,7 @@ pub fn to_front(ram: &Ram, over: &mut Overlay, shape: &Shape, item: u64)
 /// The least recent item, none where the list is empty.
 pub fn last(ram: &Ram, over: &Overlay, shape: &Shape) -> Option<u64>
     requires shape { IsShape shape.now }
-    requires region { length ram.now ≡ region_words shape.now }
+    requires region { length ram.now ≡ shape_words shape.now }
     requires list { HasRecency (seen over.now ram.now) shape.now }
     ensures { (items : List ℕ) → IsRecency (seen over.now ram.now) shape.now items → result ≡ last_of items }
 {
@@ -94,7 +94,7 @@ pub fn last(ram: &Ram, over: &Overlay, shape: &Shape) -> Option<u64>
 /// The most recent item, none where the list is empty.
 pub fn newest(ram: &Ram, over: &Overlay, shape: &Shape) -> Option<u64>
     requires shape { IsShape shape.now }
-    requires region { length ram.now ≡ region_words shape.now }
+    requires region { length ram.now ≡ shape_words shape.now }
     requires list { HasRecency (seen over.now ram.now) shape.now }
     ensures { (items : List ℕ) → IsRecency (seen over.now ram.now) shape.now items → result ≡ slice_get items 0 }
 {
@@ -104,7 +104,7 @@ pub fn newest(ram: &Ram, over: &Overlay, shape: &Shape) -> Option<u64>
 /// The next less recent item, none where the item is the last one.
 pub fn older(ram: &Ram, over: &Overlay, shape: &Shape, item: u64) -> Option<u64>
     requires shape { IsShape shape.now }
-    requires region { length ram.now ≡ region_words shape.now }
+    requires region { length ram.now ≡ shape_words shape.now }
     requires item { item < shape.now.n_items }
     requires listed { IsRecent (seen over.now ram.now) shape.now item }
     ensures { (items : List ℕ) → IsRecency (seen over.now ram.now) shape.now items → IsOneOf items item

@@ -1,6 +1,6 @@
 // The list after each call, and the words that hold it.
 ghost use Rattle.std.specs.Prelude.{◌≡◌, ◌<◌, ◌+◌, ◌∷◌, [], length};
-ghost use Rattle.uw_words.specs.Shapes.{IsShape, region_words};
+ghost use Rattle.uw_words.specs.Shapes.{IsShape, shape_words};
 ghost use Rattle.uw_words.specs.Numbers.{IsOneOf, IsNoneOf, without_number};
 ghost use Rattle.uw_words.specs.Parts.{seen};
 ghost use Rattle.uw_recency.specs.Recency.{IsRecency};
@@ -13,7 +13,7 @@ use uw_words::{Overlay, Ram, Shape};
 // Four items of nine words, from word 21 on.
 fn small_shape() -> Shape
     ensures shape { IsShape result }
-    ensures region { region_words result ≡ 489 }
+    ensures region { shape_words result ≡ 489 }
     ensures items { result.n_items ≡ 4 }
 {
     Shape {
@@ -36,7 +36,7 @@ fn small_shape() -> Shape
 // An item comes before the items of the list.
 fn front(rt: &impl Abort, ram: &Ram, over: &mut Overlay, shape: &Shape, item: u64, list: &[u64])
     requires shape { IsShape shape.now }
-    requires region { length ram.now ≡ region_words shape.now }
+    requires region { length ram.now ≡ shape_words shape.now }
     requires item { item < shape.now.n_items }
     requires list { IsRecency (seen over.old ram.now) shape.now list.now }
     requires unlisted { IsNoneOf list.now item }
@@ -49,7 +49,7 @@ fn front(rt: &impl Abort, ram: &Ram, over: &mut Overlay, shape: &Shape, item: u6
 // An item of the list leaves it.
 fn out(rt: &impl Abort, ram: &Ram, over: &mut Overlay, shape: &Shape, item: u64, list: &[u64])
     requires shape { IsShape shape.now }
-    requires region { length ram.now ≡ region_words shape.now }
+    requires region { length ram.now ≡ shape_words shape.now }
     requires item { item < shape.now.n_items }
     requires list { IsRecency (seen over.old ram.now) shape.now list.now }
     requires listed { IsOneOf list.now item }
@@ -62,7 +62,7 @@ fn out(rt: &impl Abort, ram: &Ram, over: &mut Overlay, shape: &Shape, item: u64,
 // An item of the list comes before the others.
 fn again(rt: &impl Abort, ram: &Ram, over: &mut Overlay, shape: &Shape, item: u64, list: &[u64])
     requires shape { IsShape shape.now }
-    requires region { length ram.now ≡ region_words shape.now }
+    requires region { length ram.now ≡ shape_words shape.now }
     requires item { item < shape.now.n_items }
     requires list { IsRecency (seen over.old ram.now) shape.now list.now }
     requires listed { IsOneOf list.now item }
@@ -75,7 +75,7 @@ fn again(rt: &impl Abort, ram: &Ram, over: &mut Overlay, shape: &Shape, item: u6
 // The calls read this list, from both ends and item by item.
 fn reads(rt: &impl Abort, ram: &Ram, over: &Overlay, shape: &Shape, list: &[u64])
     requires shape { IsShape shape.now }
-    requires region { length ram.now ≡ region_words shape.now }
+    requires region { length ram.now ≡ shape_words shape.now }
     requires list { IsRecency (seen over.now ram.now) shape.now list.now }
 {
     assert_eq!(rt; newest(ram, over, shape), list.first().copied());
@@ -90,7 +90,7 @@ fn reads(rt: &impl Abort, ram: &Ram, over: &Overlay, shape: &Shape, list: &[u64]
 fn three(rt: &impl Abort, ram: &Ram, over: &mut Overlay, shape: &Shape)
     requires shape { IsShape shape.now }
     requires items { shape.now.n_items ≡ 4 }
-    requires region { length ram.now ≡ region_words shape.now }
+    requires region { length ram.now ≡ shape_words shape.now }
     requires list { IsRecency (seen over.old ram.now) shape.now [] }
     ensures { IsRecency (seen over.new ram.now) shape.now (3 ∷ 0 ∷ 2 ∷ []) }
 {
