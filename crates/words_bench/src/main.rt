@@ -61,14 +61,6 @@ fn planned_words(region: &Region, words: u64, first: u64) -> u64 {
     sum
 }
 
-fn plain_words(region: &Region, words: u64, first: u64) -> u64 {
-    let mut sum: u64 = 0;
-    for k in 0..words {
-        sum = sum.wrapping_add(region.plain(first.wrapping_add(k)));
-    }
-    sum
-}
-
 // One turn of a work: a sum of the words that it read.
 fn turn(
     alloc: Global,
@@ -79,8 +71,8 @@ fn turn(
 ) -> Result<u64, Memory> {
     let first = number.wrapping_mul(words);
     match work {
-        Work::Plain => Ok(plain_words(region, words, first)),
-        Work::Unplanned => Ok(planned_words(region, words, first.wrapping_add(words))),
+        Work::Plain => Ok(region.follow(first.wrapping_add(words), words)),
+        Work::Unplanned => Ok(region.follow_planned(first.wrapping_add(words), words)),
         Work::Clear => {
             region.clear();
             put_words(region, words, first);

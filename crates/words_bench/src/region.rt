@@ -73,9 +73,27 @@ impl Region {
         self.plan.load(&self.ram, place(number))
     }
 
-    /// The word at the place of this number.
-    pub fn plain(&self, number: u64) -> u64 {
-        self.ram.load(place(number))
+    /// Goes from place to place, so many: the word of each says how far on the next one is, one more than it says.
+    pub fn follow(&self, number: u64, links: u64) -> u64 {
+        let mut next = number;
+        for _ in 0..links {
+            next = self
+                .ram
+                .load(place(next))
+                .wrapping_add(next)
+                .wrapping_add(1);
+        }
+        next
+    }
+
+    /// The same as they are planned.
+    pub fn follow_planned(&self, number: u64, links: u64) -> u64 {
+        let mut next = number;
+        for _ in 0..links {
+            let word = self.plan.load(&self.ram, place(next));
+            next = word.wrapping_add(next).wrapping_add(1);
+        }
+        next
     }
 
     /// Plans nothing any more.
