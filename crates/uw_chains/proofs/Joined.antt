@@ -1,17 +1,14 @@
 -- An item joins its chain.
-use Rattle.std.proofs.Common.{◌≡◌, ◌≢◌, ◌⊎◌, inl, inr, ℕ, ◌+◌, ◌%◌, ◌<◌, ◌≤◌, List, [], ◌∷◌, refl, sym, ap, ◌∙◌, subst, arith}
+use Rattle.std.proofs.Common.{◌≡◌, ◌≢◌, inl, inr, ℕ, ◌+◌, ◌%◌, ◌<◌, List, ◌∷◌, sym, ap, ◌∙◌, subst, arith}
 use Rattle.std.proofs.lemmas.Bool.{cases_eq}
 use Rattle.uw_words.specs.declared.shape.Shape.{Shape}
 use Rattle.uw_words.specs.Shapes.{IsShape}
-use Rattle.uw_words.specs.Plans.{Plan}
 use Rattle.uw_words.specs.Numbers.{IsOneOf, IsNoneOf, AreDistinct}
-use Rattle.uw_words.specs.Parts.{seen, HasRoom, GrewAt}
 use Rattle.uw_words.specs.Walks.{link_of, item_word, IsWalk}
 use Rattle.uw_words.specs.Records.{HoldsKey, HoldsSomeKey}
 use Rattle.uw_words.proofs.Links.{walk_same}
-use Rattle.uw_words.proofs.Numbers.{one_apart, not_none}
-use Rattle.uw_words.proofs.Growth.{put_on, puts_on, with_puts, with_puts-other, with_puts-first, read_puts, grew_puts}
-use Rattle.uw_chains.specs.Chains.{chain_place, key_chain, item_chain, FallsOn, IsChains, with_chain, link_places}
+use Rattle.uw_words.proofs.Numbers.{one_apart}
+use Rattle.uw_chains.specs.Chains.{chain_place, item_chain, FallsOn, IsChains, with_chain}
 use Rattle.uw_chains.proofs.Places.{zero_word, head_apart, head_link, heads_apart, links_apart, word_apart, own_short, key_same, own_chain, with_same, with_other}
 
 module _ (shape : Shape) (shaped : IsShape shape) (before now : ℕ → ℕ) (chains : ℕ → List ℕ) (item : ℕ) (is : IsChains before shape chains) (short : item < shape.n_items)

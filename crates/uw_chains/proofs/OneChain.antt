@@ -1,10 +1,10 @@
 -- Regions of one chain.
-use Rattle.std.proofs.Common.{◌≡◌, ℕ, ◌+◌, ◌<◌, List, [], ◌∷◌, sym, ap, ◌∙◌, subst, arith}
+use Rattle.std.proofs.Common.{◌≡◌, ℕ, ◌<◌, List, [], sym, ap, ◌∙◌, subst, arith}
 use Rattle.uw_words.specs.declared.shape.Shape.{Shape}
 use Rattle.uw_words.specs.Shapes.{IsShape}
 use Rattle.uw_words.specs.Numbers.{IsOneOf, AreDistinct}
 use Rattle.uw_words.specs.Walks.{IsWalk}
-use Rattle.uw_chains.specs.Chains.{chain_place, item_chain, IsChains, with_chain, FallsOn}
+use Rattle.uw_chains.specs.Chains.{chain_place, item_chain, IsChains, with_chain}
 use Rattle.uw_chains.proofs.Places.{own_short, with_same}
 
 pub one_chain : (shape : Shape) (reader : ℕ → ℕ) (chains : ℕ → List ℕ) (list : List ℕ) → shape.n_chains ≡ 1 → chains 0 ≡ list → IsChains reader shape chains → IsChains reader shape (λ _. list)

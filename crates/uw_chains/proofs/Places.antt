@@ -1,17 +1,15 @@
 -- The places of the chains and of their items are apart.
-use Rattle.std.proofs.Common.{◌≡◌, ◌≢◌, ◌⊎◌, inl, inr, ℕ, ◌+◌, ◌*◌, ◌%◌, ◌<◌, ◌≤◌, cond, eqb, List, [], ◌∷◌, refl, sym, ap, ◌∙◌, subst, arith}
+use Rattle.std.proofs.Common.{◌≡◌, ◌≢◌, ◌⊎◌, inl, inr, ℕ, ◌+◌, ◌%◌, ◌<◌, ◌≤◌, List, [], ◌∷◌, refl, sym, ap, ◌∙◌, subst, arith}
 use Rattle.std.proofs.lemmas.Bool.{cases_eq}
 use Rattle.std.proofs.lemmas.Bool.Decides.{nat_tests}
-use Rattle.uw_base.specs.Numbers.{djb33x_of}
 use Rattle.uw_words.specs.declared.shape.Shape.{Shape}
 use Rattle.uw_words.specs.Shapes.{IsShape}
-use Rattle.uw_words.specs.Numbers.{IsOneOf, IsNoneOf}
+use Rattle.uw_words.specs.Numbers.{IsOneOf}
 use Rattle.uw_words.specs.Parts.{AgreeOn}
 use Rattle.uw_words.specs.Walks.{link_of, item_word, IsWalk}
 use Rattle.uw_words.specs.Records.{HoldsKey}
 use Rattle.uw_words.proofs.Links.{same_item, same_link, walk_once, walk_same}
-use Rattle.uw_words.proofs.Numbers.{not_none}
-use Rattle.uw_chains.specs.Chains.{chain_place, key_chain, item_chain, FallsOn, IsChains, with_chain, link_places, place_before, unlink_places, IsOnChain, IsChainsPlace, IsChainsKeyPlace}
+use Rattle.uw_chains.specs.Chains.{chain_place, key_chain, item_chain, IsChains, with_chain, link_places, place_before, unlink_places, IsChainsPlace, IsChainsKeyPlace}
 
 pub zero_word : (reader : ℕ → ℕ) (shape : Shape) (item : ℕ) → item_word reader shape item 0 ≡ reader (link_of shape item)
 zero_word reader shape item = ap reader (let e : link_of shape item + 0 ≡ link_of shape item = omega arith in e)

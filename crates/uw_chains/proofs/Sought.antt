@@ -1,13 +1,12 @@
 -- The items of a chain are looked at one after the other.
-use Rattle.std.proofs.Common.{◌≡◌, ◌≢◌, ◌⊎◌, inl, inr, ℕ, ◌+◌, ◌%◌, ◌<◌, ◌≤◌, cond, eqb, Bool, true, List, [], ◌∷◌, length, Option, Some, None, IsNone, IfSome, IfNone, ◌↔◌, refl, sym, ap, ◌∙◌, subst, arith}
-use Rattle.std.proofs.lemmas.Bool.{cases_eq}
+use Rattle.std.proofs.Common.{◌≡◌, ◌≢◌, ◌⊎◌, inl, inr, ℕ, ◌+◌, ◌<◌, ◌≤◌, true, List, [], ◌∷◌, length, Option, Some, None, IfSome, refl, sym, ap, ◌∙◌, subst, arith}
 use Rattle.std.proofs.lemmas.Bool.Decides.{nat_tests}
 use Rattle.uw_words.specs.declared.shape.Shape.{Shape}
 use Rattle.uw_words.specs.Shapes.{IsShape}
-use Rattle.uw_words.specs.Numbers.{IsOneOf, IsNoneOf, AreDistinct}
-use Rattle.uw_words.specs.Walks.{link_of, item_word, IsLink, IsWalk}
+use Rattle.uw_words.specs.Numbers.{IsOneOf}
+use Rattle.uw_words.specs.Walks.{link_of, item_word, IsLink, IsWalk, counted_walk, is_whole_walk}
 use Rattle.uw_words.specs.Records.{HoldsKey, HoldsSomeKey}
-use Rattle.uw_words.proofs.Links.{link_above, link_within, same_link, walk_once, walk_short}
+use Rattle.uw_words.proofs.Links.{link_above, link_within, same_link, walk_once, walk_short, counted_is}
 use Rattle.uw_words.proofs.Numbers.{distinct_length}
 use Rattle.uw_chains.specs.Chains.{chain_place, key_chain, item_chain, IsChains, place_before}
 use Rattle.uw_chains.specs.ChainSteps.{IsKeyLink}
@@ -17,6 +16,11 @@ use Rattle.uw_chains.proofs.Places.{zero_word, own_short, key_short}
 pub chain_length : (shape : Shape) (reader : ℕ → ℕ) (chains : ℕ → List ℕ) (chain : ℕ) → IsChains reader shape chains → chain < shape.n_chains → length (chains chain) ≤ shape.n_items
 chain_length shape reader chains chain is low =
     distinct_length (chains chain) shape.n_items (is.distinct chain low) (walk_short shape reader 0 (chains chain) (reader (chain_place shape chain)) (is.walk chain low))
+
+pub counted_chain : (shape : Shape) (reader : ℕ → ℕ) (chains : ℕ → List ℕ) (chain : ℕ) → IsShape shape → IsChains reader shape chains → chain < shape.n_chains
+    → (counted_walk reader shape (reader (chain_place shape chain)) 0 shape.n_items ≡ chains chain) × (is_whole_walk reader (reader (chain_place shape chain)) 0 shape.n_items ≡ true)
+counted_chain shape reader chains chain shaped is low =
+    counted_is shape shaped reader 0 (chains chain) (reader (chain_place shape chain)) shape.n_items (is.walk chain low) (chain_length shape reader chains chain is low)
 
 -- the place of the link to an item is looked for from this place on
 pub record Placing (reader : ℕ → ℕ) (shape : Shape) (first item at steps : ℕ) : Type 0 where

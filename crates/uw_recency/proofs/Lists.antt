@@ -1,14 +1,14 @@
 -- The recency list before and after its links change.
-use Rattle.std.proofs.Common.{◌≡◌, ◌≢◌, inl, inr, ℕ, zero, suc, ◌+◌, ◌<◌, cond, eqb, List, [], ◌∷◌, Option, Some, None, slice_get, refl, sym, ap, ◌∙◌, subst, arith}
+use Rattle.std.proofs.Common.{◌≡◌, ◌≢◌, inl, inr, ℕ, zero, suc, ◌+◌, ◌<◌, cond, eqb, List, [], ◌∷◌, Option, Some, None, slice_get, refl, sym, ap, ◌∙◌, subst, arith, true}
 use Rattle.std.proofs.lemmas.Bool.{cases_eq}
 use Rattle.std.proofs.lemmas.Bool.Decides.{nat_tests}
 use Rattle.uw_words.specs.declared.shape.Shape.{Shape}
 use Rattle.uw_words.specs.Shapes.{IsShape}
 use Rattle.uw_words.specs.Numbers.{IsOneOf, IsNoneOf, AreDistinct, without_number}
 use Rattle.uw_words.specs.Parts.{AgreeOn}
-use Rattle.uw_words.specs.Walks.{link_of, item_word, IsWalk}
-use Rattle.uw_words.proofs.Links.{link_above, walk_same}
-use Rattle.uw_words.proofs.Numbers.{distinct_without}
+use Rattle.uw_words.specs.Walks.{link_of, item_word, IsWalk, counted_walk, is_whole_walk}
+use Rattle.uw_words.proofs.Links.{link_above, walk_same, walk_short, counted_is}
+use Rattle.uw_words.proofs.Numbers.{distinct_without, distinct_length}
 use Rattle.uw_words.proofs.Growth.{with_puts, with_puts-other, with_puts-first}
 use Rattle.uw_recency.specs.Recency.{AreLinkedBack, IsRecency, IsRecencyPlace, last_of, next_of, forward_place, backward_place, front_places, out_places, first_without}
 use Rattle.uw_recency.proofs.Nodes.{node_link, forward_of, backward_of, IsLinked, linked_from, walk_of_linked, IsNodeOf, first_node, first_in, IsNode, first_link, both_apart, forward_is, backward_is, linked_once, front_linked, Between, between, backward_apart, forward_apart}
@@ -214,3 +214,9 @@ out_own shape reader items item at shaped is one (inr (inl here)) =
     let linked = between_of shape shaped reader items item is one in
     backward_own shape items linked.next at linked.next_in (sym (ap (backward_place shape) linked.ahead ∙ backward_is shape shaped linked.next) ∙ here)
 out_own shape reader items item at shaped is one (inr (inr none)) = absurd none
+
+pub counted_list : (shape : Shape) (reader : ℕ → ℕ) (items : List ℕ) → IsShape shape → IsRecency reader shape items
+    → (counted_walk reader shape (reader (shape.head + 6)) 2 shape.n_items ≡ items) × (is_whole_walk reader (reader (shape.head + 6)) 2 shape.n_items ≡ true)
+counted_list shape reader items shaped is =
+    counted_is shape shaped reader 2 items (reader (shape.head + 6)) shape.n_items is.walk
+    (distinct_length items shape.n_items is.distinct (walk_short shape reader 2 items (reader (shape.head + 6)) is.walk))

@@ -1,9 +1,10 @@
 //! Laws of the recency list. Each is the contract of a function that does nothing.
-ghost use Rattle.std.specs.Prelude.{◌≡◌, ◌+◌, ◌∷◌, ℕ, List};
+ghost use Rattle.std.specs.Prelude.{◌≡◌, ◌+◌, ◌∷◌, ℕ, List, true};
 ghost use Rattle.uw_words.specs.declared.shape.Shape.{Shape};
 ghost use Rattle.uw_words.specs.Shapes.{IsShape};
 ghost use Rattle.uw_words.specs.Numbers.{IsOneOf};
 ghost use Rattle.uw_words.specs.Parts.{DependsOn};
+ghost use Rattle.uw_words.specs.Walks.{counted_walk, is_whole_walk};
 ghost use Rattle.uw_recency.specs.Recency.{IsRecency, IsRecencyPlace, front_places, out_places};
 
 /// Whether items are the recency list depends on its own places alone.
@@ -15,6 +16,13 @@ pub fn recency_depends_on_its_places()
 pub fn recency_is_one_list()
     ensures { (shape : Shape) (reader : ℕ → ℕ) (items others : List ℕ) → IsShape shape → IsRecency reader shape items
         → IsRecency reader shape others → items ≡ others }
+{}
+
+/// A counted walk of as many items as there are gives the recency list, and it is whole.
+pub fn counted_walk_gives_the_recency_list()
+    ensures { (shape : Shape) (reader : ℕ → ℕ) (items : List ℕ) → IsShape shape → IsRecency reader shape items
+        → (let first = reader (shape.head + 6) in
+        (counted_walk reader shape first 2 shape.n_items ≡ items) × (is_whole_walk reader first 2 shape.n_items ≡ true)) }
 {}
 
 /// An item that comes to the front is written to places of the list with it.

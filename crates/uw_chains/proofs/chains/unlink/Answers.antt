@@ -1,4 +1,4 @@
-use Rattle.std.proofs.Common.{[], ◌∷◌, ap, ◌∙◌, subst}
+use Rattle.std.proofs.Common.{[], ap, ◌∙◌, subst}
 use Rattle.uw_words.specs.Parts.{seen, HasRoom}
 use Rattle.uw_words.proofs.Growth.{room_now}
 use Rattle.uw_chains.specs.Chains.{unlink_places}
