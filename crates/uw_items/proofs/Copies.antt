@@ -117,8 +117,17 @@ word_is text small = le_bytes_8 bytes (from_le_bytes w64 text) (padded_length te
     ]
 
     same : from_le_bytes w64 text ≡ from_le_bytes w64 (take 8 (text ++ replicate 8 0))
-    same = omega (arith, padded_take text 0 (omega arith), padded_take text 1 (omega arith), padded_take text 2 (omega arith), padded_take text 3 (omega arith),
-        padded_take text 4 (omega arith), padded_take text 5 (omega arith), padded_take text 6 (omega arith), padded_take text 7 (omega arith))
+    same = omega (
+      arith,
+      padded_take text 0 (omega arith),
+      padded_take text 1 (omega arith),
+      padded_take text 2 (omega arith),
+      padded_take text 3 (omega arith),
+      padded_take text 4 (omega arith),
+      padded_take text 5 (omega arith),
+      padded_take text 6 (omega arith),
+      padded_take text 7 (omega arith),
+    )
 
 -- the words of a text give the text
 later_held : (reader : ℕ → ℕ) (at : ℕ) (text : List ℕ) → 8 < length text → HoldsText reader at text → HoldsText reader (at + 1) (drop 8 text)

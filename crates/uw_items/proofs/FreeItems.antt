@@ -93,17 +93,17 @@ module _ (shape : Shape) (plan one now : Plan) (words : List ℕ) (item link fir
         ∙ read_put plan.writes (region words) (link + 2) first
         ∙ first_is in
         let stays : (other : ℕ) → IsOneOf items other → item_word (seen now words) shape other 2 ≡ item_word (seen plan words) shape other 2 = λ other one_of.
-            ap (λ (p : Plan). seen p words (link_of shape other + 2)) put_two
-            ∙ read_other one.writes (region words) (shape.head + 8) link (link_of shape other + 2) (head_apart shape is other 2)
-            ∙ ap (λ (p : Plan). seen p words (link_of shape other + 2)) put_one
-            ∙ read_other plan.writes (region words) (link + 2) first (link_of shape other + 2)
-            (λ same. items_apart shape is other item 2 2 (one_apart items other item one_of none) (omega arith) (omega arith) (sym same ∙ ap (λ (l : ℕ). l + 2) link_is)) in
+        ap (λ (p : Plan). seen p words (link_of shape other + 2)) put_two
+        ∙ read_other one.writes (region words) (shape.head + 8) link (link_of shape other + 2) (head_apart shape is other 2)
+        ∙ ap (λ (p : Plan). seen p words (link_of shape other + 2)) put_one
+        ∙ read_other plan.writes (region words) (link + 2) first (link_of shape other + 2)
+        (λ same. items_apart shape is other item 2 2 (one_apart items other item one_of none) (omega arith) (omega arith) (sym same ∙ ap (λ (l : ℕ). l + 2) link_is)) in
         record {
           walk = (
             head,
             short,
             subst (λ (l : ℕ). IsWalk (seen now words) shape l 2 items) (sym next)
-            (walk_same shape (seen plan words) (seen now words) 2 items (seen plan words (shape.head + 8)) stays free.walk),
+                (walk_same shape (seen plan words) (seen now words) 2 items (seen plan words (shape.head + 8)) stays free.walk),
           );
           distinct = (none, free.distinct);
         }

@@ -1,19 +1,20 @@
 -- What an item holds, and the places of it.
-use Rattle.std.proofs.Common.{◌≡◌, inl, inr, ℕ, ◌+◌, ◌*◌, ◌-◌, ◌<◌, ◌≤◌, List, [], ◌∷◌, length, get_or, refl, sym, ap, ◌∙◌, subst, arith}
+use Rattle.std.proofs.Common.{zero, suc, ◌≡◌, inl, inr, ℕ, ◌+◌, ◌*◌, ◌-◌, ◌<◌, ◌≤◌, List, [], ◌∷◌, length, get_or, refl, sym, ap, ◌∙◌, subst, arith}
 use Rattle.std.specs.Int.{div_ceil}
 use Rattle.uw_base.specs.Numbers.{djb33x_of}
 use Rattle.uw_words.specs.declared.shape.Shape.{Shape}
 use Rattle.uw_words.specs.Shapes.{IsShape}
 use Rattle.uw_words.specs.Plans.{Plan, region}
-use Rattle.uw_words.specs.Numbers.{IsOneOf, places_from}
+use Rattle.uw_words.specs.Numbers.{IsOneOf, IsNoneOf, places_from}
 use Rattle.uw_words.specs.Parts.{seen, AgreeOn, HasRoom, GrewAt}
 use Rattle.uw_words.specs.Walks.{link_of, item_word}
 use Rattle.uw_words.specs.Records.{HoldsKey}
 use Rattle.uw_words.proofs.Growth.{put_on, puts_on, grew_puts, grew_then, read_put, read_other, read_grown, in_row, row_has}
-use Rattle.uw_words.proofs.Links.{item_within}
+use Rattle.uw_words.proofs.Links.{link_above, item_within, same_item}
 use Rattle.uw_items.specs.declared.records.Fields.{Fields}
 use Rattle.uw_items.specs.Texts.{HoldsText, text_at}
 use Rattle.uw_items.specs.Items.{block_place, LieInBlocks, held_key, key_places, HoldsValue, held_value, value_places, HoldsFields, field_places, IsRecordPlace}
+use Rattle.uw_items.specs.FreeList.{IsFreePlace}
 use Rattle.uw_items.proofs.Copies.{none_before, text_back}
 
 -- the end of an item is within the region
@@ -112,10 +113,12 @@ key_back shape reader item key small holds =
     ∙ text_back reader (link_of shape item + 8) key small
     (λ k short. let place : link_of shape item + 8 + k ≡ link_of shape item + (8 + k) = omega arith in ap reader place ∙ holds.words k short)
 
-pub value_back : (shape : Shape) (reader : ℕ → ℕ) (item : ℕ) (value : List ℕ) → ((k : ℕ) → get_or value k 0 < 256) → HoldsValue reader shape (item_word reader shape item 4) value
-    → item_word reader shape item 5 ≡ length value → held_value reader shape item ≡ value
-value_back shape reader item value small holds len =
-    ap (text_at reader (block_place shape (item_word reader shape item 4))) len ∙ text_back reader (block_place shape (item_word reader shape item 4)) value small holds
+pub value_back : (shape : Shape) (reader : ℕ → ℕ) (item : ℕ) (fields : Fields) (value : List ℕ) → ((k : ℕ) → get_or value k 0 < 256) → HoldsFields reader shape item fields
+    → fields.length ≡ length value → HoldsValue reader shape fields.first value → held_value reader shape item ≡ value
+value_back shape reader item fields value small fielded len holds =
+    ap (λ (first : ℕ). text_at reader (block_place shape first) (item_word reader shape item 5)) fielded.first
+    ∙ ap (text_at reader (block_place shape fields.first)) (fielded.bytes ∙ len)
+    ∙ text_back reader (block_place shape fields.first) value small holds
 
 -- on what they depend
 pub key_same : (shape : Shape) (item : ℕ) (key : List ℕ) (before now : ℕ → ℕ) → AgreeOn (IsOneOf (key_places shape item (length key))) before now → HoldsKey before shape item key
@@ -153,3 +156,35 @@ pub value_within : (shape : Shape) (first bytes at : ℕ) → IsShape shape → 
 value_within shape first bytes at is lie one =
     let row = in_row (block_place shape first) (div_ceil bytes 8) at one in
     (omega (arith, row.0), omega (arith, row.1, lie, is.intent))
+
+-- where they do not stand, and how many they are
+pub fields_off_key : (shape : Shape) (item bytes at : ℕ) → IsOneOf (field_places shape item) at → IsNoneOf (key_places shape item bytes) at
+fields_off_key shape item bytes at one =
+    let low : at < link_of shape item + 6 = before one in
+    ((λ same. absurd (omega (arith, same, low))), ((λ same. absurd (omega (arith, same, low))), none_before (link_of shape item + 8) (div_ceil bytes 8) at (omega (arith, low))))
+  where
+    before : IsOneOf (field_places shape item) at → at < link_of shape item + 6
+    before (inl here) = omega (arith, here)
+    before (inr (inl here)) = omega (arith, here)
+    before (inr (inr (inl here))) = omega (arith, here)
+    before (inr (inr (inr none))) = absurd none
+
+row_length : (first count : ℕ) → length (places_from first count) ≡ count
+row_length first zero = refl
+row_length first (suc count) = ap suc (row_length (first + 1) count)
+
+pub key_count : (shape : Shape) (item bytes : ℕ) → length (key_places shape item bytes) ≡ 2 + div_ceil bytes 8
+key_count shape item bytes = omega (arith, row_length (link_of shape item + 8) (div_ceil bytes 8))
+
+pub value_count : (shape : Shape) (first bytes : ℕ) → length (value_places shape first bytes) ≡ div_ceil bytes 8
+value_count shape first bytes = row_length (block_place shape first) (div_ceil bytes 8)
+
+pub words_within : (shape : Shape) (item at : ℕ) → IsShape shape → item < shape.n_items → IsRecordPlace shape item at → (shape.items ≤ at) × (at < shape.blocks)
+words_within shape item at is short (field, (high, low, here)) = (omega (arith, here), omega (arith, here, item_within shape is item field short low))
+
+pub words_off_free : (shape : Shape) (items : List ℕ) (item at : ℕ) → IsShape shape → IsRecordPlace shape item at → IsFreePlace shape items at → ⊥
+words_off_free shape items item at is (field, (high, low, here)) (inl head) = omega (arith, here, head, is.head, link_above shape is item)
+words_off_free shape items item at is (field, (high, low, here)) (inr (other, (one, there))) =
+    let same : item ≡ other = same_item shape is item other field 2 low (omega (arith, is.stride)) (sym here ∙ there) in
+    let link : link_of shape item ≡ link_of shape other = ap (link_of shape) same in
+    omega (arith, here, there, link, high)

@@ -1,10 +1,11 @@
 //! Laws of what items hold and of the free ones. Each is the contract of a function that does nothing.
 ghost use Rattle.std.specs.Prelude.{◌≡◌, ◌<◌, ◌≤◌, ◌+◌, ◌*◌, ◌∷◌, ℕ, List, true, length, slice_index};
+ghost use Rattle.std.specs.Int.{div_ceil};
 ghost use Rattle.uw_words.specs.declared.shape.Shape.{Shape};
 ghost use Rattle.uw_words.specs.Shapes.{IsShape};
-ghost use Rattle.uw_words.specs.Numbers.{IsOneOf};
+ghost use Rattle.uw_words.specs.Numbers.{IsOneOf, IsNoneOf};
 ghost use Rattle.uw_words.specs.Parts.{DependsOn};
-ghost use Rattle.uw_words.specs.Walks.{item_word, counted_walk, is_whole_walk};
+ghost use Rattle.uw_words.specs.Walks.{counted_walk, is_whole_walk};
 ghost use Rattle.uw_words.specs.Records.{HoldsKey};
 ghost use Rattle.uw_items.specs.declared.records.Fields.{Fields};
 ghost use Rattle.uw_items.specs.Items.{block_place, LieInBlocks, held_key, key_places, HoldsValue, held_value, value_places, HoldsFields, field_places, IsRecordPlace};
@@ -16,11 +17,11 @@ pub fn a_held_key_is_read()
         → HoldsKey reader shape item key → held_key reader shape item ≡ key }
 {}
 
-/// A value that stands in an item's blocks is the one that is read.
+/// A value that stands in the blocks which an item's fields name is the one that is read.
 pub fn a_held_value_is_read()
-    ensures { (shape : Shape) (reader : ℕ → ℕ) (item : ℕ) (value : List ℕ) → ((k : ℕ) → slice_index value k < 256)
-        → HoldsValue reader shape (item_word reader shape item 4) value → item_word reader shape item 5 ≡ length value
-        → held_value reader shape item ≡ value }
+    ensures { (shape : Shape) (reader : ℕ → ℕ) (item : ℕ) (fields : Fields) (value : List ℕ)
+        → ((k : ℕ) → slice_index value k < 256) → HoldsFields reader shape item fields → fields.length ≡ length value
+        → HoldsValue reader shape fields.first value → held_value reader shape item ≡ value }
 {}
 
 /// An item holds one list of fields at most.
@@ -57,6 +58,34 @@ pub fn key_places_are_of_the_item()
 pub fn field_places_are_of_the_item()
     ensures { (shape : Shape) (item at : ℕ) → IsShape shape → IsOneOf (field_places shape item) at
         → IsRecordPlace shape item at }
+{}
+
+/// Fields are written to no place of their item's key.
+pub fn field_places_are_apart_from_the_key()
+    ensures { (shape : Shape) (item bytes at : ℕ) → IsOneOf (field_places shape item) at
+        → IsNoneOf (key_places shape item bytes) at }
+{}
+
+/// A key is written to two words and those of its bytes.
+pub fn key_places_are_few()
+    ensures { (shape : Shape) (item bytes : ℕ) → length (key_places shape item bytes) ≡ 2 + div_ceil bytes 8 }
+{}
+
+/// A value is written to the words of its bytes.
+pub fn value_places_are_few()
+    ensures { (shape : Shape) (first bytes : ℕ) → length (value_places shape first bytes) ≡ div_ceil bytes 8 }
+{}
+
+/// The words of items stand behind the chains and before the blocks.
+pub fn item_words_are_within()
+    ensures { (shape : Shape) (item at : ℕ) → IsShape shape → item < shape.n_items → IsRecordPlace shape item at
+        → (shape.items ≤ at) × (at < shape.blocks) }
+{}
+
+/// What items hold stands at no place of the free list.
+pub fn item_words_are_apart_from_the_free_list()
+    ensures { (shape : Shape) (items : List ℕ) (item at : ℕ) → IsShape shape → IsRecordPlace shape item at
+        → ¬ IsFreePlace shape items at }
 {}
 
 /// No word is one of two items.
