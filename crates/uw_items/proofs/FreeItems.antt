@@ -1,5 +1,5 @@
 -- The free items before and after one is taken or given.
-use Rattle.std.proofs.Common.{◌≡◌, ◌≢◌, inl, inr, ℕ, ◌+◌, ◌<◌, List, [], ◌∷◌, Some, drop, slice_get, refl, sym, ap, ◌∙◌, subst, arith, true}
+use Rattle.std.proofs.Common.{◌≡◌, ◌≢◌, inl, inr, ℕ, ◌+◌, ◌<◌, List, [], ◌∷◌, Some, drop, slice_get, refl, sym, ap, ◌∙◌, subst, arith, true, ◌≤◌, length, eqb, cond, false, Bool}
 use Rattle.std.proofs.lemmas.Bool.Decides.{nat_tests}
 use Rattle.uw_words.specs.declared.shape.Shape.{Shape}
 use Rattle.uw_words.specs.Shapes.{IsShape}
@@ -124,3 +124,10 @@ pub free_counted : (shape : Shape) (reader : ℕ → ℕ) (items : List ℕ) →
 free_counted shape reader items is free =
     counted_is shape is reader 2 items (reader (shape.head + 8)) shape.n_items free.walk
     (distinct_length items shape.n_items free.distinct (walk_short shape reader 2 items (reader (shape.head + 8)) free.walk))
+
+pub take_count : (shape : Shape) (reader : ℕ → ℕ) → length (take_places reader shape) ≤ 1
+take_count shape reader = count (eqb (reader (shape.head + 8)) 0)
+  where
+    count : (none : Bool) → length (cond none [] ((shape.head + 8) ∷ [])) ≤ 1
+    count true = omega arith
+    count false = omega arith

@@ -131,6 +131,11 @@ pub fn take_places_are_of_the_free_list()
         → IsFreePlace shape items at }
 {}
 
+/// A free item is taken by one write at most.
+pub fn take_places_are_few()
+    ensures { (shape : Shape) (reader : ℕ → ℕ) → length (take_places reader shape) ≤ 1 }
+{}
+
 /// An item that is given is written to places of the free list with it.
 pub fn give_places_are_of_the_free_list()
     ensures { (shape : Shape) (items : List ℕ) (item at : ℕ) → IsOneOf (give_places shape item) at

@@ -3,6 +3,9 @@ ghost use Rattle.std.specs.Prelude.{◌≡◌, ◌≤◌, ◌<◌, ◌∷◌, []
 ghost use Rattle.uw_words.specs.Shapes.{IsShape, shape_words};
 ghost use Rattle.uw_words.specs.Numbers.{IsNoneOf};
 ghost use Rattle.uw_words.specs.Parts.{seen};
+ghost use Rattle.uw_words.specs.Plans.{region};
+ghost use Rattle.uw_words.specs.Walks.{item_word};
+ghost use Rattle.uw_items.specs.Items.{LieInBlocks};
 ghost use Rattle.uw_items.specs.FreeList.{IsFreeList};
 
 use crate::{
@@ -66,7 +69,8 @@ fn key_again(
     put_key(over, &shape, 3, key);
     store(rt, ram, over);
     assert!(rt; ram.len() == 500);
-    assert!(rt; ram.load(57) <= 24);
+    let link = shape.link_of(3);
+    assert!(rt; ram.load(link + 6) <= 24);
     Ok(key_of(alloc, ram, &shape, 3)?.into_vec())
 }
 
@@ -89,6 +93,24 @@ fn keys_are_read_back(rt: HostRuntime) -> Result<(), Fail> {
         assert_eq!(rt; again.as_slice(), key);
     }
     Ok(())
+}
+
+// The value of an item lies in the eight blocks of two words, as its fields say.
+fn lies(rt: &impl Abort, ram: &Ram, shape: &Shape, item: u64)
+    requires shape { IsShape shape.now }
+    requires region { length ram.now ≡ shape_words shape.now }
+    requires item { item < shape.now.n_items }
+    requires blocks { shape.now.n_blocks ≡ 8 }
+    requires block { shape.now.block_words ≡ 2 }
+    ensures { (let reader = region ram.now in
+        LieInBlocks shape.now (item_word reader shape.now item 4) (item_word reader shape.now item 5)) }
+{
+    let link = shape.link_of(item);
+    let first = ram.load(link + 4);
+    let bytes = ram.load(link + 5);
+    assert!(rt; first <= 8);
+    assert!(rt; bytes <= 128);
+    assert!(rt; 16 * first + bytes <= 128);
 }
 
 // The value that is read once one is put into the blocks from the third one on.
@@ -116,8 +138,7 @@ fn value_again(
     assert_eq!(rt; fields_of(ram, over, &shape, 4), fields);
     store(rt, ram, over);
     assert!(rt; ram.len() == 500);
-    assert!(rt; ram.load(66) == 2);
-    assert!(rt; ram.load(67) <= 96);
+    lies(rt, ram, &shape, 4);
     Ok(value_of(alloc, ram, &shape, 4)?.into_vec())
 }
 
@@ -174,6 +195,8 @@ fn takes(rt: &impl Abort, ram: &Ram, over: &mut Overlay, shape: &Shape, list: &[
     ensures { IsFreeList (seen over.new ram.now) shape.now (drop 1 list.now) }
 {
     assert!(rt; over.spare() >= 1);
+    uw_words::laws::spare_words_are_room();
+    laws::take_places_are_few();
     assert_eq!(rt; take_free(ram, over, shape), list.first().copied());
 }
 
