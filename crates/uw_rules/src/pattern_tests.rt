@@ -1,0 +1,1 @@
+// The maker of patterns, through its trait.
