@@ -81,6 +81,7 @@ fn compiled(alloc: Global, text: &str) -> Built
         Ok(regex) => Built::Pattern(regex),
         Err(Error::Syntax(_)) => Built::Syntax,
         Err(Error::OutOfMemory) => Built::Memory,
-        Err(Error::CompiledTooBig | Error::Internal) => Built::Refused,
+        Err(Error::CompiledTooBig) => Built::Refused,
+        Err(Error::Internal) => Built::Refused,
     }
 }
