@@ -1,7 +1,8 @@
 -- What the tables of the code stand for.
-use Rattle.std.specs.Prelude.{ℕ, List, map, Option}
+use Rattle.std.specs.Prelude.{ℕ, ◌==◌, List, [], map, Option}
 use Rattle.std.specs.Borrow.{Bor}
-use Rattle.std.specs.Option.{option_map}
+use Rattle.std.specs.List.{slice_split}
+use Rattle.std.specs.Option.{option_map, option_map_or}
 use Rattle.uw_rules.specs.declared.grammar.LineKind.{LineKind}
 use Rattle.uw_rules.specs.declared.grammar.Slot.{Slot}
 use Rattle.uw_rules.specs.declared.grammar.Shape.{Shape}
@@ -31,3 +32,7 @@ rows_seen rows = map (λ row. (row.0.now, row.1, shape_seen row.2)) rows
 -- the row of a name
 abbrev pub row_seen : {N : Type 0} → Option (N × Shape) → Option (N × ArgumentShape)
 row_seen row = option_map (λ found. (found.0, shape_seen found.1)) row
+
+-- the pairs that are left of an argument
+abbrev pub pairs_left : Option (Bor (List ℕ)) → List (List ℕ)
+pairs_left rest = option_map_or (λ (text : Bor (List ℕ)). slice_split (λ byte. byte == 44) text.now) rest []

@@ -7,3 +7,5 @@ pub mod Rules
 pub mod Compiled
 pub mod Tables
 pub mod GrammarSteps
+pub mod CheckSteps
+pub mod WrittenSteps

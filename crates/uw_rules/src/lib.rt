@@ -1,12 +1,15 @@
 //! Rules: what a table of lines says, compiled, or its first refused line.
 #![tactic(auto)]
 
+mod arguments;
+mod checks;
 pub mod compiled;
 mod grammar;
 mod kinds;
 mod lines;
 pub mod patterns;
 pub mod regex_patterns;
+mod written;
 
 pub use compiled::{Action, Condition, Rule, RuleTable, Test};
 pub use grammar::Subject;
