@@ -1,1 +1,2 @@
 mod PatternLemmas
+pub mod ArgumentLemmas

@@ -1,9 +1,20 @@
-//! Rules: compiled patterns, and what makes them.
+//! Rules: what a table of lines says, compiled, or its first refused line.
 #![tactic(auto)]
 
+mod arguments;
+mod checks;
+pub mod compiled;
+mod grammar;
+mod kinds;
+mod lines;
 pub mod patterns;
 pub mod regex_patterns;
+mod written;
 
+pub use compiled::{Action, Condition, Rule, RuleTable, Test};
+pub use grammar::Subject;
+pub use kinds::{RuleKind, RulesError};
+pub use lines::{RuleLine, RuleLineList};
 pub use patterns::{Built, Patterns};
 pub use regex_patterns::RegexPatterns;
 
