@@ -8,8 +8,9 @@ use Rattle.uw_conf.specs.declared.conf.ConfKind.{ConfKind}
 use Rattle.uw_conf.specs.declared.conf.ConfKind.TheVariants as kinds
 use Rattle.uw_conf.specs.Lines.{Line, nothing, section, option, broken, line_of}
 use Rattle.uw_base.specs.Texts.{trimmed}
-use Rattle.uw_conf.specs.Configuration.{ReadSoFar, with_line, read_line, at_line, read_lines}
-use Rattle.uw_conf.specs.Laws.{IsPlainLine, is_section, reading_after, unless_refused}
+use Rattle.uw_conf.specs.Reading.{ReadSoFar, with_line, read_line, at_line, read_lines}
+use Rattle.uw_conf.specs.Reading.{reading_after, unless_refused}
+use Rattle.uw_conf.specs.Laws.{IsPlainLine, is_section}
 
 -- a line of another section is passed over
 passed_line : (r : ReadSoFar) (line : Line) → r.inside ≡ Some false → is_section line ≡ false → with_line r line ≡ Ok r

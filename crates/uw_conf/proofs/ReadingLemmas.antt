@@ -3,12 +3,13 @@ use Rattle.std.proofs.Common.{◌≡◌, ℕ, ◌+◌, ◌==◌, Bool, true, fal
 use Rattle.std.proofs.lemmas.Result.{IfOk-at_ok}
 use Rattle.std.specs.Str.Lines.{lines}
 use Rattle.std.specs.Str.Lossy.{utf8_valid_len}
-use Rattle.uw_conf.specs.declared.conf.Conf.{Conf}
+use Rattle.uw_conf.specs.declared.conf.Options.{Options}
 use Rattle.uw_conf.specs.declared.conf.ConfFault.{ConfFault}
 use Rattle.uw_conf.specs.declared.conf.ConfKind.{ConfKind}
 use Rattle.uw_conf.specs.Lines.{Line, nothing, section, option, broken, line_of}
 use Rattle.uw_base.specs.Texts.{trimmed}
-use Rattle.uw_conf.specs.Configuration.{ReadSoFar, blank_conf, with_option, with_conf, with_setting, with_broken_line, with_line, read_line, at_line, read_lines, conf_read, most_text_bytes, configuration_of}
+use Rattle.uw_conf.specs.Reading.{ReadSoFar, blank_conf, with_option, with_conf, with_setting, with_broken_line, with_line, read_line, at_line, read_lines, conf_read}
+use Rattle.uw_conf.specs.Configuration.{most_text_bytes, configuration_of}
 
 -- a line that is taken leads to the lines behind it
 pub lines_step : (r next : ReadSoFar) (number : ℕ) (line : List ℕ) (rest all : List (List ℕ)) → all ≡ line ∷ rest → read_line r line ≡ Ok next → read_lines (Ok r) number all ≡ read_lines (Ok next) (number + 1) rest
@@ -21,11 +22,11 @@ ok_if P true x y h k = h
 ok_if P false x y h k = k
 
 -- what holds of a configuration, and goes on to hold behind each option that is taken
-module _ (P : Conf → Type 0) (options : (conf : Conf) (name value : List ℕ) → P conf → IfOk (with_option conf name value) P) where
+module _ (P : Options → Type 0) (options : (conf : Options) (name value : List ℕ) → P conf → IfOk (with_option conf name value) P) where
   abbrev Kept : {E : Type 0} → Result ReadSoFar E → Type 0
   Kept r = IfOk r (λ reading. P reading.conf)
 
-  kept_in_keeps : (r : ReadSoFar) (x : Result Conf ConfKind) → IfOk x P → Kept (with_conf r x)
+  kept_in_keeps : (r : ReadSoFar) (x : Result Options ConfKind) → IfOk x P → Kept (with_conf r x)
   kept_in_keeps r (Err kind) h = tt
   kept_in_keeps r (Ok conf) h = h
 
@@ -69,7 +70,7 @@ module _ (P : Conf → Type 0) (options : (conf : Conf) (name value : List ℕ) 
   conf_read_keeps (Ok r) h = h
 
   -- it holds of what a text says, where it holds of a configuration that says nothing
-  pub configuration_keeps : P blank_conf → (text : List ℕ) (conf : Conf) → configuration_of text ≡ Ok conf → P conf
+  pub configuration_keeps : P blank_conf → (text : List ℕ) (conf : Options) → configuration_of text ≡ Ok conf → P conf
   configuration_keeps blank text conf says =
       let start : Result ReadSoFar ConfFault = Ok (record { inside = None; conf = blank_conf }) in
       IfOk-at_ok P says

@@ -3,11 +3,13 @@ use Rattle.std.proofs.Common.{◌≡◌, ℕ, zero, suc, ◌+◌, ◌<◌, ◌�
 use Rattle.std.specs.List.{slice_get}
 use Rattle.std.proofs.lemmas.Bool.Decides.{nat_tests}
 use Rattle.std.specs.Str.Lines.{lines}
-use Rattle.uw_conf.specs.declared.conf.Conf.{Conf}
+use Rattle.uw_conf.specs.declared.conf.Options.{Options}
 use Rattle.uw_conf.specs.declared.conf.ConfFault.{ConfFault}
 use Rattle.uw_conf.specs.declared.conf.ConfKind.{ConfKind}
-use Rattle.uw_conf.specs.Configuration.{ReadSoFar, blank_reading, read_line, at_line, read_lines, conf_read, most_text_bytes, refused_at, configuration_of}
-use Rattle.uw_conf.specs.Laws.{IsLeastRefusal, reading_after, refusal, refusal_at, refusal_behind, refusal_from, unless_refused}
+use Rattle.uw_conf.specs.Reading.{ReadSoFar, blank_reading, read_line, at_line, read_lines, conf_read, refused_at}
+use Rattle.uw_conf.specs.Configuration.{most_text_bytes, configuration_of}
+use Rattle.uw_conf.specs.Reading.{reading_after, unless_refused}
+use Rattle.uw_conf.specs.Laws.{IsLeastRefusal, refusal, refusal_at, refusal_behind, refusal_from}
 
 -- the place of the fault is the least at which a line is refused
 record IsLeastFrom (r : ReadSoFar) (number : ℕ) (all : List (List ℕ)) (fault : ConfFault) : Type 0 where
@@ -65,7 +67,7 @@ reading_tells r number [] = (λ place. none place, refl)
 reading_tells r number (line ∷ rest) = tells_behind r number line rest (read_line r line) refl (λ next. reading_tells next (number + 1) rest)
 
 -- a text within the limit, by what its reading gives
-read_of : (b : Bool) (fault : ConfFault) (x : Result Conf ConfFault) (conf : Conf) → cond b (Err fault) x ≡ Ok conf → x ≡ Ok conf
+read_of : (b : Bool) (fault : ConfFault) (x : Result Options ConfFault) (conf : Options) → cond b (Err fault) x ≡ Ok conf → x ≡ Ok conf
 read_of true fault x conf e = absurd (cc)
 read_of false fault x conf e = e
 
@@ -91,7 +93,7 @@ least_refused text fault small says =
     let within : nat_lt most_text_bytes (length text) ≡ false = not_lt most_text_bytes (length text) small in
     least_of text fault (read_lines (Ok blank_reading) 1 (lines text)) (reading_tells blank_reading 1 (lines text)) (rw within at says)
 
-none_of : (text : List ℕ) (conf : Conf) (x : Result ReadSoFar ConfFault) → Tells blank_reading 1 (lines text) x → conf_read x ≡ Ok conf
+none_of : (text : List ℕ) (conf : Options) (x : Result ReadSoFar ConfFault) → Tells blank_reading 1 (lines text) x → conf_read x ≡ Ok conf
     → ((number : ℕ) → refusal_at (lines text) number ≡ None) × (conf ≡ (reading_after blank_reading (lines text)).conf)
 none_of text conf (Err fault) told e = absurd (cc)
 none_of text conf (Ok last) told e = (each, let same : last.conf ≡ conf = cc in sym same ∙ ap (λ (r : ReadSoFar). r.conf) told.1)
@@ -100,7 +102,7 @@ none_of text conf (Ok last) told e = (each, let same : last.conf ≡ conf = cc i
     each zero = refl
     each (suc place) = told.0 place
 
-pub none_refused : (text : List ℕ) (conf : Conf) → configuration_of text ≡ Ok conf
+pub none_refused : (text : List ℕ) (conf : Options) → configuration_of text ≡ Ok conf
     → ((number : ℕ) → refusal_at (lines text) number ≡ None) × (conf ≡ (reading_after blank_reading (lines text)).conf)
 none_refused text conf says =
     none_of text conf (read_lines (Ok blank_reading) 1 (lines text)) (reading_tells blank_reading 1 (lines text)) (read_of (nat_lt most_text_bytes (length text)) _ _ conf says)

@@ -1,6 +1,8 @@
 pub mod Lines
 pub mod Sizes
 pub mod Caches
+pub mod Reading
+pub mod Routes
 pub mod Configuration
 pub mod Given
 pub mod Sound

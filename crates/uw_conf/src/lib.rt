@@ -12,9 +12,9 @@ mod refusal;
 mod sizes;
 mod values;
 
-pub use conf::{Conf, ConfError, ConfFault, ConfKind};
-pub use reading::read_conf;
+pub use conf::{Conf, ConfError, ConfFault, ConfKind, Options};
 pub use sizes::region_words;
+
 
 #[cfg(test)]
 mod tests;

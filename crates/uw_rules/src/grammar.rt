@@ -1,5 +1,5 @@
 // The grammar of rules, as tables: the options, the conditions and the actions.
-ghost use Rattle.std.specs.Prelude.{◌≡◌, Option};
+ghost use Rattle.std.specs.Prelude.{◌≡◌, Option, is_some};
 ghost use Rattle.uw_rules.specs.Grammar.{action_of, condition_of, kind_of_line, named, row_of};
 ghost use Rattle.uw_rules.specs.GrammarSteps.{named_rows, rows_seen, row_seen};
 
@@ -238,6 +238,13 @@ pub fn kind_of_line(option: &[u8]) -> Option<LineKind>
     ensures { result ≡ kind_of_line option.now }
 {
     kind_in(&OPTIONS, option)
+}
+
+/// Whether an option of the configuration is a rule's.
+pub fn is_rule_option(option: &[u8]) -> bool
+    ensures { result ≡ is_some (kind_of_line option.now) }
+{
+    kind_of_line(option).is_some()
 }
 
 // The row of a name.

@@ -12,7 +12,7 @@ pub mod regex_patterns;
 mod written;
 
 pub use compiled::{Action, Condition, Rule, RuleTable, Test};
-pub use grammar::Subject;
+pub use grammar::{Subject, is_rule_option};
 pub use kinds::{RuleKind, RulesError};
 pub use lines::{RuleLine, RuleLineList};
 pub use patterns::{Built, Patterns};

@@ -1,6 +1,6 @@
 use Rattle.std.proofs.Common.{ap, Result, append_assoc}
 use Rattle.uw_conf.specs.declared.conf.ConfFault.{ConfFault}
-use Rattle.uw_conf.specs.Configuration.{ReadSoFar, blank_reading, conf_read}
+use Rattle.uw_conf.specs.Reading.{ReadSoFar, blank_reading, conf_read}
 use Rattle.uw_conf.proofs.OtherSectionLemmas.{replaced}
 use Rattle.uw_conf.proofs.laws.lines_of_other_sections_change_nothing.Goals as goal
 
