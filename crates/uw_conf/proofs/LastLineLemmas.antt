@@ -16,7 +16,8 @@ use Rattle.uw_conf.specs.Lines.{Line, nothing, section, option, broken, line_of}
 use Rattle.uw_base.specs.Texts.{trimmed}
 use Rattle.uw_conf.specs.Caches.{number_in, with_cache}
 use Rattle.uw_conf.specs.Reading.{ReadSoFar, blank_reading, option_kind, set_number, set_caches, set_option, with_option, with_conf, with_setting, with_broken_line, with_line, read_line, at_line, read_lines, conf_read}
-use Rattle.uw_conf.specs.Configuration.{most_text_bytes, configuration_of}
+use Rattle.uw_conf.specs.Configuration.{configuration_of}
+use Rattle.uw_conf.proofs.RefusalLemmas.{own_says}
 use Rattle.uw_conf.specs.Laws.{Setting, is_inside_behind, is_kind, last_value, number_or, setting_in, settings_from, settings_of, values_of}
 
 abbrev is_inside : Option Bool → Bool
@@ -113,13 +114,9 @@ module _ {A : Type 0} (field : Options → A) (kind : OptionKind) (read : List �
   conf_of_reading (Err fault) conf e = absurd (cc)
   conf_of_reading (Ok r) conf e = (r, refl, cc)
 
-  small_text : (b : Bool) (fault : ConfFault) (x : Result Options ConfFault) (conf : Options) → cond b (Err fault) x ≡ Ok conf → x ≡ Ok conf
-  small_text true fault x conf e = absurd (cc)
-  small_text false fault x conf e = e
-
   pub counts_by_last : (text : List ℕ) (conf : Options) → configuration_of text ≡ Ok conf → field conf ≡ value_or (field blank_reading.conf) (last_or None (values_of kind (settings_from false (lines text))))
   counts_by_last text conf says =
-      let read = conf_of_reading (read_lines (Ok blank_reading) 1 (lines text)) conf (small_text (nat_lt most_text_bytes (length text)) _ _ conf says) in
+      let read = conf_of_reading (read_lines (Ok blank_reading) 1 (lines text)) conf (own_says text conf says) in
       ap field (sym read.2) ∙ read_all blank_reading read.0 1 (lines text) read.1
 
 -- ---- what each option leaves in each field
@@ -159,6 +156,7 @@ set_leaves conf of.Spoolers value = number_left 1 16 value (λ n. record conf { 
 set_leaves conf of.SpoolFreq value = number_left 1 3600 value (λ n. record conf { spool_freq = n }) (FieldsAfter of.SpoolFreq value conf) (λ n e. record { of_buffer_size = refl; of_workers = refl; of_harakiri = refl; of_expire_freq = refl; of_spoolers = refl; of_spool_freq = rw e refl; of_socket = refl })
 set_leaves conf of.Socket value = ok_step (FieldsAfter of.Socket value conf) (length value == 0) (Err kinds.BadValue) (Ok (record conf { socket = value })) (λ _. tt) (λ _. record { of_buffer_size = refl; of_workers = refl; of_harakiri = refl; of_expire_freq = refl; of_spoolers = refl; of_spool_freq = refl; of_socket = refl })
 set_leaves conf of.Cache value = caches_left conf (with_cache conf.caches value) (FieldsAfter of.Cache value conf) (λ caches. record { of_buffer_size = refl; of_workers = refl; of_harakiri = refl; of_expire_freq = refl; of_spoolers = refl; of_spool_freq = refl; of_socket = refl })
+set_leaves conf of.Rule value = record { of_buffer_size = refl; of_workers = refl; of_harakiri = refl; of_expire_freq = refl; of_spoolers = refl; of_spool_freq = refl; of_socket = refl }
 set_leaves conf of.NoEffect value = record { of_buffer_size = refl; of_workers = refl; of_harakiri = refl; of_expire_freq = refl; of_spoolers = refl; of_spool_freq = refl; of_socket = refl }
 
 -- what an option leaves by its name, where what it leaves by its kind is known

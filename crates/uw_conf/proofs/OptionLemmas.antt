@@ -41,6 +41,7 @@ caches_set conf value h of.Spoolers = number_keeps HasCaches 1 16 (number_in 1 1
 caches_set conf value h of.SpoolFreq = number_keeps HasCaches 1 3600 (number_in 1 3600 value) (λ n. record conf { spool_freq = n }) (number_in_some 1 3600 value) (λ n limits. h)
 caches_set conf value h of.Socket = ok_if HasCaches (length value == 0) _ _ tt h
 caches_set conf value h of.Cache = caches_keep conf (with_cache conf.caches value) (with_cache_keeps conf.caches value h)
+caches_set conf value h of.Rule = h
 caches_set conf value h of.NoEffect = h
 
 pub caches_kept : (conf : Options) (name value : List ℕ) → HasCaches conf → IfOk (with_option conf name value) HasCaches
@@ -76,6 +77,7 @@ limits_set conf value h of.SpoolFreq =
     record { buffer_size = h.buffer_size; workers = h.workers; harakiri = h.harakiri; expire_freq = h.expire_freq; spoolers = h.spoolers; spool_freq = limits })
 limits_set conf value h of.Socket = ok_if HasLimits (length value == 0) _ _ tt (record { buffer_size = h.buffer_size; workers = h.workers; harakiri = h.harakiri; expire_freq = h.expire_freq; spoolers = h.spoolers; spool_freq = h.spool_freq })
 limits_set conf value h of.Cache = limits_keep conf (with_cache conf.caches value) h
+limits_set conf value h of.Rule = h
 limits_set conf value h of.NoEffect = h
 
 pub limits_kept : (conf : Options) (name value : List ℕ) → HasLimits conf → IfOk (with_option conf name value) HasLimits

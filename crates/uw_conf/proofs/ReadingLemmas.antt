@@ -8,8 +8,9 @@ use Rattle.uw_conf.specs.declared.conf.ConfFault.{ConfFault}
 use Rattle.uw_conf.specs.declared.conf.ConfKind.{ConfKind}
 use Rattle.uw_conf.specs.Lines.{Line, nothing, section, option, broken, line_of}
 use Rattle.uw_base.specs.Texts.{trimmed}
-use Rattle.uw_conf.specs.Reading.{ReadSoFar, blank_conf, with_option, with_conf, with_setting, with_broken_line, with_line, read_line, at_line, read_lines, conf_read}
-use Rattle.uw_conf.specs.Configuration.{most_text_bytes, configuration_of}
+use Rattle.uw_conf.specs.Reading.{ReadSoFar, blank_conf, with_option, with_conf, with_setting, with_broken_line, with_line, read_line, at_line, read_lines, conf_read, blank_reading, unless_refused}
+use Rattle.uw_conf.specs.Configuration.{configuration_of}
+use Rattle.uw_conf.proofs.RefusalLemmas.{own_says}
 
 -- a line that is taken leads to the lines behind it
 pub lines_step : (r next : ReadSoFar) (number : ℕ) (line : List ℕ) (rest all : List (List ℕ)) → all ≡ line ∷ rest → read_line r line ≡ Ok next → read_lines (Ok r) number all ≡ read_lines (Ok next) (number + 1) rest
@@ -72,6 +73,13 @@ module _ (P : Options → Type 0) (options : (conf : Options) (name value : List
   -- it holds of what a text says, where it holds of a configuration that says nothing
   pub configuration_keeps : P blank_conf → (text : List ℕ) (conf : Options) → configuration_of text ≡ Ok conf → P conf
   configuration_keeps blank text conf says =
-      let start : Result ReadSoFar ConfFault = Ok (record { inside = None; conf = blank_conf }) in
-      IfOk-at_ok P says
-      (ok_if P (nat_lt most_text_bytes (length text)) _ _ tt (conf_read_keeps (read_lines start 1 (lines text)) (read_lines_keeps start 1 (lines text) blank)))
+      let start : Result ReadSoFar ConfFault = Ok blank_reading in
+      IfOk-at_ok P (own_says text conf says) (conf_read_keeps (read_lines start 1 (lines text)) (read_lines_keeps start 1 (lines text) blank))
+
+  past : (r : ReadSoFar) (x : Result ReadSoFar ConfKind) → Kept x → P r.conf → P (unless_refused r x).conf
+  past r (Ok next) kept h = kept
+  past r (Err kind) kept h = h
+
+  -- a line that is taken, or passed where it is refused, keeps it
+  pub past_keeps : (r : ReadSoFar) (line : List ℕ) → P r.conf → P (unless_refused r (read_line r line)).conf
+  past_keeps r line h = past r (read_line r line) (read_line_keeps r line h) h

@@ -45,8 +45,8 @@ pub struct Conf {
 impl Options {
     /// The configuration of these options and rules.
     pub fn with_routes(self, routes: RuleTable) -> Conf
-        ensures options { options_in result ≡ self.entry }
-        ensures routes { result.routes ≡ routes.entry }
+        ensures options { options_in result ≡ self }
+        ensures routes { result.routes ≡ routes }
     {
         Conf {
             buffer_size: self.buffer_size,

@@ -15,6 +15,5 @@ mod values;
 pub use conf::{Conf, ConfError, ConfFault, ConfKind, Options};
 pub use sizes::region_words;
 
-
 #[cfg(test)]
 mod tests;

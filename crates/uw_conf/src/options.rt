@@ -6,11 +6,11 @@ ghost use Rattle.uw_conf.specs.Reading.{is_passed_over, option_kind, set_caches,
 ghost use Rattle.uw_conf.specs.Sound.{AreCaches};
 ghost use Rattle.uw_conf.specs.declared.conf.ConfKind.TheVariants as kinds;
 
+use crate::ConfKind;
 use crate::caches::add_cache_line;
+use crate::conf::Options;
 use crate::refusal::Refusal;
 use crate::values::number_in;
-use crate::conf::Options;
-use crate::ConfKind;
 use std::alloc::Global;
 use uw_base::Bytes;
 use uw_base::texts::{is, is_any};

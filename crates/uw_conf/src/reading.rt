@@ -102,12 +102,7 @@ impl Progress {
     }
 
     // A line that was told what it is.
-    fn take_line(
-        &mut self,
-        alloc: Global,
-        number: u32,
-        line: LineKind<'_>,
-    ) -> Result<(), Refusal>
+    fn take_line(&mut self, alloc: Global, number: u32, line: LineKind<'_>) -> Result<(), Refusal>
         requires { AreCaches self.old.options.caches }
         ensures reading { Makes (progress_seen self.old) (progress_seen self.new) result
             (with_line (progress_seen self.old) (line_seen line.entry)) }
