@@ -1,2 +1,3 @@
 mod PatternLemmas
 pub mod ArgumentLemmas
+pub mod CompileLemmas

@@ -10,6 +10,7 @@ use Rattle.uw_rules.specs.declared.grammar.ConditionName.{ConditionName}
 use Rattle.uw_rules.specs.declared.grammar.ConditionName.TheVariants as conditions
 use Rattle.uw_rules.specs.declared.grammar.ActionName.{ActionName}
 use Rattle.uw_rules.specs.declared.grammar.ActionName.TheVariants as actions
+use Rattle.uw_rules.specs.declared.compiled.CacheWrite.{CacheWrite}
 use Rattle.uw_rules.specs.declared.compiled.Condition.{Condition}
 use Rattle.uw_rules.specs.declared.compiled.Condition.TheVariants as asks
 use Rattle.uw_rules.specs.declared.compiled.Test.{Test}
@@ -44,6 +45,16 @@ or_one text = unwrap_or (option_and_then signed_of text) (pos 1)
 unfoldable pub cache_named : List (List ℕ) → Option (List ℕ) → Option ℕ
 cache_named names text = option_and_then (λ name. position_from (bytes_eq name) 0 names) text
 
+-- a write of an entry
+abbrev pub write_of : List (List ℕ) → Option (List ℕ) → CacheWrite
+write_of names argument = record {
+  key = or_empty (text_at (codes "key") argument);
+  value = or_empty (text_at (codes "value") argument);
+  expires = or_zero (text_at (codes "expires") argument);
+  cache = cache_named names (text_at (codes "name") argument);
+  var = text_at (codes "var") argument;
+}
+
 -- a calculation with an entry
 abbrev pub math_of : List (List ℕ) → MathOp → Option (List ℕ) → Action
 math_of names op argument =
@@ -66,12 +77,8 @@ action_meant names labels actions.Cache argument =
     does.Cache (or_empty (text_at (codes "key") argument)) (text_at (codes "content_type") argument) (cache_named names (text_at (codes "name") argument))
 action_meant names labels actions.CacheVar argument =
     does.CacheVar (or_empty (text_at (codes "key") argument)) (cache_named names (text_at (codes "name") argument)) (or_empty (text_at (codes "var") argument))
-action_meant names labels actions.CacheSet argument =
-    does.CacheSet (or_empty (text_at (codes "key") argument)) (or_empty (text_at (codes "value") argument)) (or_zero (text_at (codes "expires") argument))
-    (cache_named names (text_at (codes "name") argument)) (text_at (codes "var") argument)
-action_meant names labels actions.CacheUpdate argument =
-    does.CacheUpdate (or_empty (text_at (codes "key") argument)) (or_empty (text_at (codes "value") argument)) (or_zero (text_at (codes "expires") argument))
-    (cache_named names (text_at (codes "name") argument)) (text_at (codes "var") argument)
+action_meant names labels actions.CacheSet argument = does.CacheSet (write_of names argument)
+action_meant names labels actions.CacheUpdate argument = does.CacheUpdate (write_of names argument)
 action_meant names labels actions.CacheDel argument =
     does.CacheDel (or_empty (text_at (codes "key") argument)) (cache_named names (text_at (codes "name") argument)) (text_at (codes "var") argument)
 action_meant names labels actions.CacheInc argument = math_of names ops.Inc argument

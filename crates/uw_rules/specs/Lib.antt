@@ -9,3 +9,4 @@ pub mod Tables
 pub mod GrammarSteps
 pub mod CheckSteps
 pub mod WrittenSteps
+pub mod CompileSteps

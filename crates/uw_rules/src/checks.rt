@@ -47,7 +47,10 @@ pub enum Check<'a> {
     /// A template with a bad form.
     Template,
     /// A label that does not stand behind this place.
-    Label { labels: &'a Labels<'a>, here: u32 },
+    Label {
+        labels: &'a Labels<'a>,
+        here: usize,
+    },
     /// The name of a cache that is none of these, or none where there is no cache.
     Name(&'a [Bytes]),
 }
@@ -211,11 +214,11 @@ impl<'a> Check<'a> {
 }
 
 // Whether a label's place is behind this one.
-fn is_ahead(here: u32, label: Option<u32>) -> bool
+fn is_ahead(here: usize, label: Option<u32>) -> bool
     ensures { result ≡ is_ahead here label }
 {
     match label {
-        Some(place) => here < place,
+        Some(place) => here < place as usize,
         None => false,
     }
 }

@@ -38,6 +38,16 @@ pub enum Test {
     Holds { negated: bool, condition: Condition },
 }
 
+/// Writes the value of a key, and puts the answer into a variable.
+#[derive(Drop)]
+pub struct CacheWrite {
+    pub key: Template,
+    pub value: Template,
+    pub expires: u64,
+    pub cache: Option<u32>,
+    pub var: Option<Bytes>,
+}
+
 /// What a rule does. Caches are named by their numbers, none standing for the first one; `expires` is in seconds.
 #[derive(Drop)]
 pub enum Action {
@@ -70,21 +80,8 @@ pub enum Action {
         cache: Option<u32>,
         var: Bytes,
     },
-    /// Sets a key, and puts the answer into a variable.
-    CacheSet {
-        key: Template,
-        value: Template,
-        expires: u64,
-        cache: Option<u32>,
-        var: Option<Bytes>,
-    },
-    CacheUpdate {
-        key: Template,
-        value: Template,
-        expires: u64,
-        cache: Option<u32>,
-        var: Option<Bytes>,
-    },
+    CacheSet(CacheWrite),
+    CacheUpdate(CacheWrite),
     CacheDel {
         key: Template,
         cache: Option<u32>,

@@ -4,7 +4,9 @@
 mod arguments;
 mod checks;
 pub mod compiled;
+mod compiling;
 mod grammar;
+mod judging;
 mod kinds;
 mod lines;
 pub mod patterns;
