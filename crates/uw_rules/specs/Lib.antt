@@ -10,3 +10,5 @@ pub mod GrammarSteps
 pub mod CheckSteps
 pub mod WrittenSteps
 pub mod CompileSteps
+pub mod LabelSteps
+pub mod TableSteps

@@ -147,7 +147,7 @@ table_of lines = map written lines
 -- the rule is the label of this text
 abbrev pub is_label_of : List ℕ → WrittenRule → Bool
 is_label_of text unparted = false
-is_label_of text (label other) = bytes_eq text other
+is_label_of text (label other) = bytes_eq other text
 is_label_of text (rule test action) = false
 
 -- the number of the rule that is a label: of the first one, since a later one is refused, as is one behind the 4,096th rule

@@ -4,9 +4,10 @@ ghost use Rattle.std.specs.List.{position_from};
 ghost use Rattle.std.specs.Str.{bytes_eq};
 ghost use Rattle.std.specs.Option.{option_copied};
 ghost use Rattle.uw_rules.specs.Arguments.{code_of, first_half, is_bad_argument, pattern_in, second_half, text_at};
-ghost use Rattle.uw_rules.specs.CheckSteps.{IsShortText, label_place};
+ghost use Rattle.uw_rules.specs.CheckSteps.{IsShortText};
 ghost use Rattle.uw_rules.specs.Compiled.{IsConditionOf, IsRuleOf, IsTestOf, action_meant, cache_named, math_of, or_empty, or_one, or_zero, write_of};
 ghost use Rattle.uw_rules.specs.CompileSteps.{CanCompile, CanCompileTest, IsPatternIn, condition_shape, HasGoodTemplates, IsGoodTemplate, action_shape};
+ghost use Rattle.uw_rules.specs.LabelSteps.{label_place};
 ghost use Rattle.uw_rules.specs.Grammar.{calculating_keys, keyed_texts, writing_keys};
 ghost use Rattle.uw_rules.specs.Rules.{pattern_of_rule, pattern_of_test};
 ghost use Rattle.uw_rules.specs.WrittenSteps.{AreShort, IsShortTest, test_seen, written_seen};
@@ -14,10 +15,11 @@ ghost use Rattle.uw_rules.specs.declared.grammar.ActionName.TheVariants as actio
 ghost use Rattle.uw_rules.specs.declared.grammar.ConditionName.TheVariants as conditions;
 
 use crate::arguments::{first_half, second_half, text_at};
-use crate::checks::{Labels, code_of};
+use crate::checks::code_of;
 use crate::compiled::{Action, CacheWrite, Condition, Rule, Test};
 use crate::grammar::{ActionName, ConditionName, action_of, condition_of};
 use crate::judging::Site;
+use crate::labels::Labels;
 use crate::written::{WrittenRule, WrittenTest};
 use regex::bytes::Regex;
 use std::alloc::Global;
@@ -248,17 +250,17 @@ fn rule_of(labels: &Labels<'_>, argument: Option<&[u8]>) -> u32
 /// The compiled action of an action that is not refused.
 pub fn action_meant(
     alloc: Global,
-    site: Site<'_>,
+    site: &Site<'_>,
     name: ActionName,
     argument: Option<&[u8]>,
 ) -> Result<Action, Memory>
-    requires names { length site.names.now < 2 ^ 32 }
+    requires names { length site.now.names.now < 2 ^ 32 }
     requires short { IsShortText (option_copied argument) }
     requires good { HasGoodTemplates (action_shape name) (option_copied argument) }
     ensures { IfOk result (λ action. action
-        ≡ action_meant site.entry.names.now (label_place site.entry.labels.now) name (option_copied argument.entry)) }
+        ≡ action_meant site.now.names.now (label_place site.now.labels) name (option_copied argument.entry)) }
 {
-    let Site { labels, names } = site;
+    let names = site.names;
     match name {
         ActionName::Continue => Ok(Action::Continue),
         ActionName::Break => Ok(Action::Break {
@@ -268,7 +270,7 @@ pub fn action_meant(
             code: code(argument),
         }),
         ActionName::Goto => Ok(Action::Goto {
-            rule: rule_of(labels, argument),
+            rule: rule_of(&site.labels, argument),
         }),
         ActionName::Redirect => Ok(Action::Redirect {
             to: template(alloc, argument)?,
@@ -422,15 +424,15 @@ fn test_meant(
 /// The compiled rule of a rule that is not refused.
 pub fn rule_meant(
     alloc: Global,
-    site: Site<'_>,
+    site: &Site<'_>,
     rule: WrittenRule<'_>,
     pattern: Option<Regex>,
 ) -> Result<Rule, Memory>
-    requires names { length site.names.now < 2 ^ 32 }
+    requires names { length site.now.names.now < 2 ^ 32 }
     requires short { AreShort (written_seen rule) }
     requires taken { CanCompile (written_seen rule) }
     requires pattern { IsPatternIn (pattern_of_rule (written_seen rule)) pattern }
-    ensures { IfOk result (λ compiled. IsRuleOf site.entry.names.now (label_place site.entry.labels.now) compiled (written_seen rule.entry)) }
+    ensures { IfOk result (λ compiled. IsRuleOf site.now.names.now (label_place site.now.labels) compiled (written_seen rule.entry)) }
 {
     match rule {
         WrittenRule::Unparted => unreachable!(),

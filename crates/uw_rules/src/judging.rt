@@ -2,7 +2,8 @@
 ghost use Rattle.std.specs.Prelude.{◌≡◌, false};
 ghost use Rattle.std.specs.Option.{option_copied};
 ghost use Rattle.uw_rules.specs.Arguments.{is_bad_argument};
-ghost use Rattle.uw_rules.specs.CheckSteps.{failing, IsShortText, label_place};
+ghost use Rattle.uw_rules.specs.CheckSteps.{failing, IsShortText};
+ghost use Rattle.uw_rules.specs.LabelSteps.{label_place};
 ghost use Rattle.uw_rules.specs.Grammar.{action_of};
 ghost use Rattle.uw_rules.specs.GrammarSteps.{shape_seen};
 ghost use Rattle.uw_rules.specs.Rules.{any_place, any_text, any_text_of_test, has_bad_template, has_unknown_action, has_unknown_condition, has_unknown_name, is_bad_phrase, is_bad_rule, is_bad_test, is_label_twice, misses_label, pattern_of_rule, pattern_of_test};
@@ -12,8 +13,9 @@ ghost use Rattle.uw_rules.specs.WrittenSteps.{AreShort, IsShortPhrase, IsShortTe
 
 use crate::RuleKind;
 use crate::arguments::{has_stray, second_half};
-use crate::checks::{Check, Labels, is_label};
+use crate::checks::{Check, is_label};
 use crate::grammar::{Shape, TextKind, action_of, condition_of};
+use crate::labels::Labels;
 use crate::written::{Phrase, WrittenRule, WrittenTest};
 use uw_base::Bytes;
 
@@ -21,9 +23,9 @@ use uw_base::Bytes;
 pub const MOST_RULES: usize = 4_096;
 
 /// What the rules of a table may name: the labels of the table, and the caches.
-#[derive(Clone, Copy)]
+#[derive(Drop)]
 pub struct Site<'a> {
-    pub labels: &'a Labels<'a>,
+    pub labels: Labels<'a>,
     pub names: &'a [Bytes],
 }
 
@@ -223,9 +225,9 @@ pub fn early_refusal(here: usize, rule: WrittenRule<'_>) -> Option<RuleKind>
 }
 
 /// Why a rule is refused behind its pattern.
-pub fn late_refusal(site: Site<'_>, here: usize, rule: WrittenRule<'_>) -> Option<RuleKind>
+pub fn late_refusal(site: &Site<'_>, here: usize, rule: WrittenRule<'_>) -> Option<RuleKind>
     requires { AreShort (written_seen rule) }
-    ensures { result ≡ late_refusal site.entry.names.now (label_place site.entry.labels.now) here (written_seen rule.entry) }
+    ensures { result ≡ late_refusal site.now.names.now (label_place site.now.labels) here (written_seen rule.entry) }
 {
     if has_unknown_action(rule) {
         return Some(RuleKind::UnknownAction);
@@ -233,10 +235,10 @@ pub fn late_refusal(site: Site<'_>, here: usize, rule: WrittenRule<'_>) -> Optio
     if has_bad_template(rule) {
         return Some(RuleKind::BadTemplate);
     }
-    if is_label_twice(site.labels, here, rule) {
+    if is_label_twice(&site.labels, here, rule) {
         return Some(RuleKind::LabelTwice);
     }
-    if misses_label(site.labels, here, rule) {
+    if misses_label(&site.labels, here, rule) {
         return Some(RuleKind::LabelNotAhead);
     }
     if has_unknown_name(site.names, rule) {

@@ -52,3 +52,13 @@ impl From<Memory> for Refusal {
         Refusal::Memory
     }
 }
+
+impl From<Memory> for RulesError {
+    ghost use Rattle.uw_rules.specs.declared.kinds.RulesError.TheVariants as errors;
+
+    ghost from_gives = { λ _ error. error ≡ errors.Memory };
+
+    fn from(_: Memory) -> RulesError {
+        RulesError::Memory
+    }
+}

@@ -8,8 +8,10 @@ mod compiling;
 mod grammar;
 mod judging;
 mod kinds;
+mod labels;
 mod lines;
 pub mod patterns;
+mod reading;
 pub mod regex_patterns;
 mod written;
 
@@ -18,6 +20,7 @@ pub use grammar::Subject;
 pub use kinds::{RuleKind, RulesError};
 pub use lines::{RuleLine, RuleLineList};
 pub use patterns::{Built, Patterns};
+pub use reading::read_rules;
 pub use regex_patterns::RegexPatterns;
 
 #[cfg(test)]
