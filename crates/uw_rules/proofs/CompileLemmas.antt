@@ -63,7 +63,7 @@ pub condition_taken : (name : List ℕ) (argument : Option (List ℕ)) (known : 
     → IsSomeAnd (condition_of name) (λ (row : ConditionName × ArgumentShape). CanCompileCondition row argument) → CanCompileCondition (known.0, condition_shape known.0) argument
 condition_taken name argument known found taken =
     let here : CanCompileCondition known argument =
-        subst (λ (row : Option (ConditionName × ArgumentShape)). IsSomeAnd row (λ (k : ConditionName × ArgumentShape). CanCompileCondition k argument)) found taken in
+    subst (λ (row : Option (ConditionName × ArgumentShape)). IsSomeAnd row (λ (k : ConditionName × ArgumentShape). CanCompileCondition k argument)) found taken in
     let shape = condition_has_shape name known found in
     record {
       argument_good = subst (λ (s : ArgumentShape). is_bad_argument s argument ≡ false) shape here.argument_good;
@@ -76,8 +76,8 @@ pub condition_pattern : (name : List ℕ) (argument : Option (List ℕ)) (known 
     → IsPatternIn (pattern_in (condition_shape known.0) argument) pattern
 condition_pattern name argument known pattern found h =
     let here : IsPatternIn (pattern_in known.1 argument) pattern =
-        subst (λ (row : Option (ConditionName × ArgumentShape)). IsPatternIn (option_and_then (λ (k : ConditionName × ArgumentShape). pattern_in k.1 argument) row) pattern)
-        found h in
+    subst (λ (row : Option (ConditionName × ArgumentShape)). IsPatternIn (option_and_then (λ (k : ConditionName × ArgumentShape). pattern_in k.1 argument) row) pattern)
+    found h in
     subst (λ (s : ArgumentShape). IsPatternIn (pattern_in s argument) pattern) (condition_has_shape name known found) here
 
 -- the templates of an action that can be compiled are those of the shape of its name
@@ -85,7 +85,7 @@ pub action_taken : (name : List ℕ) (argument : Option (List ℕ)) (known : Act
     → IsSomeAnd (action_of name) (λ (row : ActionName × ArgumentShape). HasGoodTemplates row.1 argument) → HasGoodTemplates (action_shape known.0) argument
 action_taken name argument known found taken =
     let here : HasGoodTemplates known.1 argument =
-        subst (λ (row : Option (ActionName × ArgumentShape)). IsSomeAnd row (λ (k : ActionName × ArgumentShape). HasGoodTemplates k.1 argument)) found taken in
+    subst (λ (row : Option (ActionName × ArgumentShape)). IsSomeAnd row (λ (k : ActionName × ArgumentShape). HasGoodTemplates k.1 argument)) found taken in
     subst (λ (s : ArgumentShape). HasGoodTemplates s argument) (action_has_shape name known found) here
 
 both_false : (a b : Bool) → (a || b) ≡ false → (a ≡ false) × (b ≡ false)

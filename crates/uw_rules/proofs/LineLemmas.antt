@@ -1,5 +1,5 @@
 -- What a line's text gives its rule: arguments that are short, and patterns of UTF-8.
-use Rattle.std.proofs.Common.{◌≡◌, ℕ, suc, ◌+◌, ◌==◌, ◌<◌, ◌≤◌, ◌^◌, Bool, true, false, cond, List, [], ◌∷◌, length, get_or, take, drop, refl, ap, subst, arith, Option, Some, None, IfSome, option_and_then, length-drop, nat_lt}
+use Rattle.std.proofs.Common.{◌≡◌, ℕ, suc, ◌+◌, ◌==◌, ◌<◌, ◌≤◌, ◌^◌, Bool, true, false, cond, List, [], ◌∷◌, length, get_or, drop, refl, arith, Option, Some, None, IfSome, option_and_then, length-drop, nat_lt}
 use Rattle.std.proofs.lemmas.List.{length-take, drop_all}
 use Rattle.std.proofs.lemmas.List.Sums.{passes_at_first, prefix_len-le-length}
 use Rattle.std.proofs.lemmas.Bool.Decides.{nat_tests}
@@ -14,7 +14,7 @@ use Rattle.uw_rules.specs.declared.grammar.LineKind.TheVariants as kinds
 use Rattle.uw_rules.specs.declared.lines.RuleLine.{RuleLine}
 use Rattle.uw_rules.specs.Grammar.{ArgumentShape, condition_of, kind_of_line}
 use Rattle.uw_rules.specs.Arguments.{pattern_in, second_half}
-use Rattle.uw_rules.specs.WrittenRules.{Phrase, WrittenTest, WrittenRule, always, matching, holding, unparted, label, rule, parted, phrase_of, written, written_as}
+use Rattle.uw_rules.specs.WrittenRules.{Phrase, WrittenTest, matching, holding, unparted, rule, parted, phrase_of, written, written_as}
 use Rattle.uw_rules.specs.Rules.{pattern_of_rule, pattern_of_test}
 use Rattle.uw_rules.specs.CheckSteps.{IsShortText}
 use Rattle.uw_rules.specs.CompileSteps.{condition_shape}
@@ -69,12 +69,13 @@ written_short line h = as_short (kind_of_line line.form) line.text h
 -- an ASCII byte is no part of another character
 at_first : (c : ℕ) (text : List ℕ) → c < 128 → IsCharBoundary text (position_or_len (λ byte. byte == c) text)
 at_first c text ascii =
-    let test = λ (byte : ℕ). byte == c in
-    (prefix_len-le-length _ text,
-     λ here high.
-         let found : (get_or text (position_or_len test text) 0 == c) ≡ true = passes_at_first test text 0 here in
-         let same : get_or text (position_or_len test text) 0 ≡ c = grind (arith, nat_tests) in
-         absurd (omega arith))
+    let test = λ (byte : ℕ). byte == c in (
+      prefix_len-le-length _ text,
+      λ here high.
+          let found : (get_or text (position_or_len test text) 0 == c) ≡ true = passes_at_first test text 0 here in
+          let same : get_or text (position_or_len test text) 0 ≡ c = grind (arith, nat_tests) in
+          absurd (omega arith),
+    )
 
 before_utf8 : (c : ℕ) (text : List ℕ) → c < 128 → IsUtf8 text → IsUtf8 (before_first (λ byte. byte == c) text)
 before_utf8 c text ascii h = IsUtf8-take text (position_or_len (λ byte. byte == c) text) h (at_first c text ascii)
@@ -137,7 +138,7 @@ as_utf8 (Some (kinds.Condition negated)) text h =
     let first = before_first (λ byte. byte == 32) text in
     parted_utf8 (list_any (λ byte. byte == 32) text) (holding negated (phrase_of first)) (phrase_of (without_blanks (after_first (λ byte. byte == 32) text)))
     (known_utf8 (phrase_of first).name (phrase_of first).argument (condition_of (phrase_of first).name) refl
-     (argument_utf8 first (before_utf8 32 text (omega arith) h)))
+    (argument_utf8 first (before_utf8 32 text (omega arith) h)))
 as_utf8 (Some kinds.Label) text h = tt
 as_utf8 None text h = tt
 

@@ -1,20 +1,18 @@
 -- The refusals of a rule, one after the other.
-use Rattle.std.proofs.Common.{◌≡◌, ◌⊎◌, inl, inr, ℕ, Bool, true, false, not, ◌||◌, ◌&&◌, cond, List, refl, sym, ap, ◌∙◌, subst, Option, Some, None, IfSome, IsSomeAnd, option_and_then, Result, Ok, Err, nat_le}
+use Rattle.std.proofs.Common.{◌≡◌, inl, inr, ℕ, Bool, true, false, not, ◌||◌, cond, List, refl, sym, ap, ◌∙◌, Option, Some, None, IsSomeAnd, Err, nat_le}
 use Rattle.std.specs.List.{list_any}
 use Rattle.std.specs.Option.{is_some, is_none, option_map_or}
 use Rattle.regex.specs.declared.bytes.regex.Regex.{Regex}
-use Rattle.uw_outside.specs.Faults.{Rose}
 use Rattle.uw_rules.specs.declared.kinds.RuleKind.{RuleKind}
 use Rattle.uw_rules.specs.declared.kinds.RuleKind.TheVariants as kinds
 use Rattle.uw_rules.specs.declared.kinds.Refusal.{Refusal}
 use Rattle.uw_rules.specs.declared.kinds.Refusal.TheVariants as refusals
 use Rattle.uw_rules.specs.declared.grammar.ConditionName.{ConditionName}
-use Rattle.uw_rules.specs.declared.compiled.Rule.{Rule}
 use Rattle.uw_rules.specs.Grammar.{ArgumentShape, action_of, condition_of}
 use Rattle.uw_rules.specs.Arguments.{is_bad_argument, is_bad_template, places_of}
-use Rattle.uw_rules.specs.Patterns.{IsPatternOf, is_pattern}
-use Rattle.uw_rules.specs.WrittenRules.{Phrase, WrittenTest, WrittenRule, always, matching, holding, unparted, label, rule}
-use Rattle.uw_rules.specs.Rules.{any_text, early_refusal, first_of_two, has_bad_pattern, has_bad_template, has_pattern, has_unknown_action, has_unknown_condition, is_bad_rule, is_bad_test, is_label_twice, is_unknown_test, any_text_of_test, late_refusal, misses_label, has_unknown_name, pattern_of_rule, pattern_refusal, refusal_of}
+use Rattle.uw_rules.specs.Patterns.{is_pattern}
+use Rattle.uw_rules.specs.WrittenRules.{WrittenTest, WrittenRule, always, matching, holding, unparted, label, rule}
+use Rattle.uw_rules.specs.Rules.{early_refusal, first_of_two, has_bad_pattern, has_bad_template, has_pattern, has_unknown_action, has_unknown_condition, is_bad_rule, is_bad_test, is_unknown_test, any_text_of_test, late_refusal, pattern_of_rule, pattern_refusal, refusal_of}
 use Rattle.uw_rules.specs.CompileSteps.{CanCompile, CanCompileCondition, CanCompileTest, HasGoodTemplates, IsPatternIn}
 use Rattle.uw_rules.specs.TableSteps.{GivesPatternIfAny, GivesRule, IsPatternRefusal}
 
@@ -75,7 +73,7 @@ module _ (written : WrittenRule) where
     one_refusal text kind h (inl bad) =
         inl
         (by_pattern names labels here false written kind none
-         (bad_step true (seen_bad (Some text) h ∙ ap not bad.1) ∙ ap Some (sym bad.0)))
+        (bad_step true (seen_bad (Some text) h ∙ ap not bad.1) ∙ ap Some (sym bad.0)))
     one_refusal text kind h (inr refused) =
         inr
         (by_pattern names labels here true written kind none (refused_step true (seen_there (Some text) h) refl ∙ ap Some (sym refused.0)), refused.0, refused.1)

@@ -1,22 +1,19 @@
 -- A table, rule by rule.
-use Rattle.std.proofs.Common.{◌≡◌, ◌⊎◌, inl, inr, refl, below_more, ℕ, ◌+◌, ◌<◌, ◌≤◌, Bool, true, false, List, [], ◌∷◌, ◌++◌, length, get_or, take, sym, ap, ◌∙◌, subst, arith, Option, Some, None, All, option_and_then, Result, Ok, Err}
+use Rattle.std.proofs.Common.{◌≡◌, inl, inr, refl, below_more, ℕ, ◌+◌, ◌<◌, ◌≤◌, Bool, true, false, List, [], ◌∷◌, ◌++◌, length, get_or, take, ap, ◌∙◌, subst, arith, Option, Some, None, option_and_then, Result, Ok, Err}
 use mathlib.Core.Path.{fun_ext}
 use Rattle.std.specs.Option.{option_map}
 use Rattle.std.specs.List.{slice_get}
 use Rattle.std.proofs.lemmas.List.{take_all}
 use Rattle.std.proofs.lemmas.Option.{slice_get_read}
 use Rattle.uw_outside.specs.Faults.{Rose}
-use Rattle.uw_rules.specs.declared.kinds.RuleKind.{RuleKind}
-use Rattle.uw_rules.specs.declared.kinds.RuleKind.TheVariants as kinds
 use Rattle.uw_rules.specs.declared.kinds.Refusal.{Refusal}
 use Rattle.uw_rules.specs.declared.kinds.Refusal.TheVariants as refusals
 use Rattle.uw_rules.specs.declared.lines.RuleLine.{RuleLine}
 use Rattle.uw_rules.specs.declared.compiled.Rule.{Rule}
-use Rattle.uw_rules.specs.declared.compiled.RuleTable.{RuleTable}
 use Rattle.uw_rules.specs.WrittenRules.{WrittenRule, written}
 use Rattle.uw_rules.specs.Rules.{place_of_label, refusal_at, refusal_of, table_of}
-use Rattle.uw_rules.specs.Compiled.{IsRuleOf, rules_of}
-use Rattle.uw_rules.specs.Tables.{AreRulesOf, IsFirstRefused, NoneRefusedBefore, ReadsRules}
+use Rattle.uw_rules.specs.Compiled.{IsRuleOf}
+use Rattle.uw_rules.specs.Tables.{AreRulesOf, NoneRefusedBefore, ReadsRules}
 use Rattle.uw_rules.specs.TableSteps.{GivesRule, error_of}
 use Rattle.uw_rules.proofs.LabelLemmas.{table_more}
 
@@ -62,8 +59,8 @@ pub taken : (names : List (List ℕ)) (found : List ℕ → Option ℕ) (lines :
     → IsReadUpTo names lines (here + 1) new
 taken names found lines here before after line said rules new one same inside is says gives so_far pushed =
     let given : GivesRule names (place_of_label lines) here before after (written line) (Ok one) =
-        subst (λ (w : WrittenRule). GivesRule names (place_of_label lines) here before after w (Ok one)) says
-        (same_labels names found lines here before after said (Ok one) same gives) in
+    subst (λ (w : WrittenRule). GivesRule names (place_of_label lines) here before after w (Ok one)) says
+    (same_labels names found lines here before after said (Ok one) same gives) in
     let at : slice_get lines here ≡ Some line = slice_get_read lines (length lines) here line refl inside is in
     record {
       earlier = earlier_more names lines here so_far.earlier (refusal_here names lines here line false at ∙ given.0);
@@ -80,23 +77,24 @@ pub refused : (names : List (List ℕ)) (found : List ℕ → Option ℕ) (lines
 refused names found lines here first before after line said refusals.Memory same inside is says later gives earlier = tt
 refused names found lines here first before after line said (refusals.Refused kind) same inside is says later gives earlier =
     let given : GivesRule names (place_of_label lines) here before after (written line) (Err (refusals.Refused kind)) =
-        subst (λ (w : WrittenRule). GivesRule names (place_of_label lines) here before after w (Err (refusals.Refused kind))) says
-        (same_labels names found lines here before after said (Err (refusals.Refused kind)) same gives) in
+    subst (λ (w : WrittenRule). GivesRule names (place_of_label lines) here before after w (Err (refusals.Refused kind))) says
+    (same_labels names found lines here before after said (Err (refusals.Refused kind)) same gives) in
     let at : slice_get lines here ≡ Some line = slice_get_read lines (length lines) here line refl inside is in
     record {
       here = here;
       number = rw at refl;
       earlier = earlier;
       cause =
-          elim given
-          [ inl plain ↦ inl (refusal_here names lines here line false at ∙ plain)
-          | inr by_maker ↦ inr (refusal_here names lines here line true at ∙ by_maker.0, by_maker.1, rose_earlier first before after later by_maker.2)
+          elim given [
+            | inl plain ↦ inl (refusal_here names lines here line false at ∙ plain)
+            | inr by_maker ↦ inr (refusal_here names lines here line true at ∙ by_maker.0, by_maker.1, rose_earlier first before after later by_maker.2)
           ];
     }
 
 -- all rules
 pub all_read : (names : List (List ℕ)) (lines : List RuleLine) (here : ℕ) (rules : List Rule) → here ≡ length lines → IsReadUpTo names lines here rules
     → NoneRefusedBefore names lines (length lines) × AreRulesOf names (place_of_label lines) rules (table_of lines)
-all_read names lines here rules last h =
-    (subst (λ (n : ℕ). NoneRefusedBefore names lines n) last h.earlier,
-     subst (λ (front : List RuleLine). AreRulesOf names (place_of_label lines) rules (table_of front)) (take_all here lines (omega arith)) h.rules_read)
+all_read names lines here rules last h = (
+  subst (λ (n : ℕ). NoneRefusedBefore names lines n) last h.earlier,
+  subst (λ (front : List RuleLine). AreRulesOf names (place_of_label lines) rules (table_of front)) (take_all here lines (omega arith)) h.rules_read,
+)

@@ -1,7 +1,6 @@
 -- What a compiled rule is of a written one.
-use Rattle.std.specs.Prelude.{◌≡◌, ℕ, ◌==◌, List, [], ◌∷◌, codes, Option, None, Some, unwrap_or, option_and_then, ℤ, pos, IsSomeAnd}
+use Rattle.std.specs.Prelude.{◌≡◌, ℕ, List, [], codes, Option, unwrap_or, option_and_then, ℤ, pos, IsSomeAnd}
 use Rattle.std.specs.List.{position_from}
-use Rattle.std.specs.Option.{option_map}
 use Rattle.std.specs.Str.{bytes_eq}
 use Rattle.uw_base.specs.Numbers.{decimal_of, signed_of}
 use Rattle.uw_model.specs.declared.calls.MathOp.{MathOp}
@@ -20,10 +19,10 @@ use Rattle.uw_rules.specs.declared.compiled.Action.TheVariants as does
 use Rattle.uw_rules.specs.declared.compiled.Rule.{Rule}
 use Rattle.uw_rules.specs.declared.compiled.RuleTable.{RuleTable}
 use Rattle.uw_rules.specs.declared.compiled.Rule.TheVariants as compiled
-use Rattle.uw_rules.specs.Grammar.{ArgumentShape, action_of, condition_of}
+use Rattle.uw_rules.specs.Grammar.{action_of, condition_of}
 use Rattle.uw_rules.specs.Arguments.{code_of, first_half, second_half, text_at}
 use Rattle.uw_rules.specs.Patterns.{IsPatternOf}
-use Rattle.uw_rules.specs.WrittenRules.{Phrase, WrittenTest, WrittenRule, always, matching, holding, unparted, label, rule}
+use Rattle.uw_rules.specs.WrittenRules.{Phrase, WrittenTest, WrittenRule, always, matching, holding, label, rule}
 
 -- the rules of a table
 abbrev pub rules_of : RuleTable → List Rule

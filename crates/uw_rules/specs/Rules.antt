@@ -1,5 +1,5 @@
 -- The refusals of a line of a table, in their order (own rule).
-use Rattle.std.specs.Prelude.{ℕ, ◌==◌, nat_lt, nat_le, Bool, true, false, not, ◌&&◌, ◌||◌, if◌then◌else◌, List, [], ◌∷◌, ◌++◌, map, take, slice_get, length, Option, None, Some, is_some, is_none, option_and_then}
+use Rattle.std.specs.Prelude.{ℕ, nat_lt, nat_le, Bool, true, false, not, ◌&&◌, ◌||◌, if◌then◌else◌, List, map, take, slice_get, Option, None, Some, is_some, is_none, option_and_then}
 use Rattle.std.specs.List.{list_any, position_from}
 use Rattle.std.specs.Option.{option_map_or, option_map}
 use Rattle.std.specs.Str.{bytes_eq}
@@ -9,7 +9,7 @@ use Rattle.uw_rules.specs.declared.kinds.RuleKind.TheVariants as refusals
 use Rattle.uw_rules.specs.Grammar.{ArgumentShape, action_of, condition_of}
 use Rattle.uw_rules.specs.Arguments.{Place, is_bad_argument, is_bad_template, is_label, is_missed_label, is_unknown_name, pattern_in, places_of}
 use Rattle.uw_rules.specs.Patterns.{is_pattern}
-use Rattle.uw_rules.specs.WrittenRules.{Phrase, WrittenTest, WrittenRule, always, matching, holding, unparted, label, rule, written}
+use Rattle.uw_rules.specs.WrittenRules.{WrittenTest, WrittenRule, always, matching, holding, unparted, label, rule, written}
 
 -- ---- what a rule's texts say
 

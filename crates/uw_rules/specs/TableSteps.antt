@@ -1,6 +1,5 @@
 -- The steps of reading a table: one pattern, and one rule.
-use Rattle.std.specs.Prelude.{◌≡◌, ◌⊎◌, ℕ, ◌≤◌, true, false, List, Option, None, Some, IfSome, IsSomeAnd, Result, Ok, Err}
-use Rattle.std.specs.Str.{IsUtf8}
+use Rattle.std.specs.Prelude.{◌≡◌, ◌⊎◌, ℕ, true, false, List, Option, None, Some, IsSomeAnd, Result, Ok, Err}
 use Rattle.regex.specs.declared.bytes.regex.Regex.{Regex}
 use Rattle.uw_outside.specs.Faults.{Rose}
 use Rattle.uw_rules.specs.declared.kinds.RuleKind.{RuleKind}

@@ -31,10 +31,7 @@ pub enum Check<'a> {
     /// A template with a bad form.
     Template,
     /// A label that does not stand behind this place.
-    Label {
-        labels: &'a Labels<'a>,
-        here: usize,
-    },
+    Label { labels: &'a Labels<'a>, here: usize },
     /// The name of a cache that is none of these, or none where there is no cache.
     Name(&'a [Bytes]),
 }

@@ -54,20 +54,39 @@ pub enum Action {
     /// Ends the table.
     Continue,
     /// Ends the request with this status, or closes.
-    Break { status: Option<Bytes> },
+    Break {
+        status: Option<Bytes>,
+    },
     /// Ends the request with the status of this code.
-    Return { code: u16 },
+    Return {
+        code: u16,
+    },
     /// Goes on at the rule of this number, which is a later one.
-    Goto { rule: u32 },
-    Redirect { to: Template },
-    RedirectPermanent { to: Template },
+    Goto {
+        rule: u32,
+    },
+    Redirect {
+        to: Template,
+    },
+    RedirectPermanent {
+        to: Template,
+    },
     /// Replaces the path, and the query string behind a `?`.
-    Rewrite { to: Template },
+    Rewrite {
+        to: Template,
+    },
     /// Sets a variable.
-    AddVar { key: Bytes, value: Template },
-    AddHeader { line: Template },
+    AddVar {
+        key: Bytes,
+        value: Template,
+    },
+    AddHeader {
+        line: Template,
+    },
     /// Puts a text at the end of the body.
-    Send { text: Template },
+    Send {
+        text: Template,
+    },
     /// Answers with the value of a key, if there is one. Without a content type it is `text/html`.
     Cache {
         key: Template,

@@ -301,10 +301,7 @@ pub fn action_meant(
 }
 
 // The two templates of a condition.
-fn two_templates(
-    alloc: Global,
-    argument: Option<&[u8]>,
-) -> Result<(Template, Template), Memory>
+fn two_templates(alloc: Global, argument: Option<&[u8]>) -> Result<(Template, Template), Memory>
     requires short { IsShortText (option_copied argument) }
     requires good { HasGoodTemplates (condition_shape conditions.Equal) (option_copied argument) }
     ensures text { IfOk result (λ two. two.0 ≡ or_empty (first_half 59 (option_copied argument.entry))) }
@@ -335,11 +332,7 @@ fn regexp(
 }
 
 // The condition of `incache`.
-fn in_cache(
-    alloc: Global,
-    names: &[Bytes],
-    argument: Option<&[u8]>,
-) -> Result<Condition, Memory>
+fn in_cache(alloc: Global, names: &[Bytes], argument: Option<&[u8]>) -> Result<Condition, Memory>
     requires names { length names.now < 2 ^ 32 }
     requires short { IsShortText (option_copied argument) }
     requires good { HasGoodTemplates (condition_shape conditions.InCache) (option_copied argument) }

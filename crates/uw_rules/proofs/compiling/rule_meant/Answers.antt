@@ -1,5 +1,4 @@
-use Rattle.std.proofs.Common.{◌≡◌, sym, ap, ◌∙◌, Some, Option}
-use Rattle.std.specs.Option.{option_copied}
+use Rattle.std.proofs.Common.{sym, ap, ◌∙◌}
 use Rattle.uw_rules.specs.GrammarSteps.{row_seen}
 use Rattle.uw_rules.proofs.CompileLemmas.{action_taken}
 use Rattle.uw_rules.proofs.compiling.rule_meant.Goals as goal

@@ -1,4 +1,4 @@
-use Rattle.std.proofs.Common.{◌≡◌, ◌<◌, length, arith}
+use Rattle.std.proofs.Common.{◌<◌, length, arith}
 use Rattle.uw_rules.proofs.LabelLemmas.{labels_all, labels_step}
 use Rattle.uw_rules.proofs.labels.labels_of.Goals as goal
 

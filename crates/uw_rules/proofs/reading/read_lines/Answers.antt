@@ -1,6 +1,5 @@
-use Rattle.std.proofs.Common.{◌≡◌, ◌<◌, length, ℕ, sym, subst, IfSome, arith, get_or}
+use Rattle.std.proofs.Common.{sym, subst, IfSome, arith}
 use Rattle.std.specs.Str.{IsUtf8}
-use Rattle.uw_rules.specs.declared.lines.RuleLine.{RuleLine}
 use Rattle.uw_rules.specs.WrittenRules.{WrittenRule}
 use Rattle.uw_rules.specs.Rules.{pattern_of_rule}
 use Rattle.uw_rules.specs.Tables.{IsRuleLine}
@@ -29,8 +28,8 @@ returns-in-Err g c =
     let after = g.M.Patterns.faults c.read_rule.new.make in
     rw c.refused_line.ensures
     (refused site.names.now (label_place site.labels) c.args.lines.now c.loop-here.here (g.M.Patterns.faults c.args.make.now) before after c.index-lines-here.result _
-     c.in-Err.refusal c.requires.labels (omega arith) c.index-lines-here.is c.written.ensures c.loop-here.invariant.later c.in-Err.ensures.gives
-     c.loop-here.invariant.so_far.earlier)
+    c.in-Err.refusal c.requires.labels (omega arith) c.index-lines-here.is c.written.ensures c.loop-here.invariant.later c.in-Err.ensures.gives
+    c.loop-here.invariant.so_far.earlier)
 
 pub loop-here-preserved : goal.loop-here-preserved
 loop-here-preserved g c =

@@ -1,5 +1,5 @@
 use Rattle.std.proofs.Common.{◌≡◌, inl, sym, ◌∙◌, subst, Option, None, List, ℕ, Err}
-use Rattle.uw_rules.specs.Rules.{early_refusal, late_refusal, pattern_of_rule, pattern_refusal}
+use Rattle.uw_rules.specs.Rules.{early_refusal, pattern_of_rule}
 use Rattle.uw_rules.specs.WrittenSteps.{written_seen}
 use Rattle.uw_rules.specs.LabelSteps.{label_place}
 use Rattle.uw_rules.specs.CompileSteps.{IsPatternIn}
@@ -27,10 +27,10 @@ returns-in-Some-late_refusal-clause-gives g c =
     let rule = written_seen c.args.rule in
     let none : early_refusal c.args.here rule ≡ None = sym c.early_refusal.ensures ∙ c.in_default.is in
     let pattern : IsPatternIn (pattern_of_rule rule) c.in-Ok.pattern =
-        subst (λ (text : Option (List ℕ)). IsPatternIn text c.in-Ok.pattern) c.pattern_of.ensures c.in-Ok.ensures.gives in
+    subst (λ (text : Option (List ℕ)). IsPatternIn text c.in-Ok.pattern) c.pattern_of.ensures c.in-Ok.ensures.gives in
     inl
     (late site.names.now (label_place site.labels) c.args.here _ rule none (no_pattern_refusal rule c.in-Ok.pattern pattern)
-     ∙ sym c.late_refusal.ensures ∙ c.in-Some-late_refusal.is)
+    ∙ sym c.late_refusal.ensures ∙ c.in-Some-late_refusal.is)
 
 pub rule_meant-requires-clause-taken : goal.rule_meant-requires-clause-taken
 rule_meant-requires-clause-taken g c =
@@ -44,6 +44,8 @@ returns-in-Ok-rule_meant-clause-gives g c =
     let rule = written_seen c.args.rule in
     let none : early_refusal c.args.here rule ≡ None = sym c.early_refusal.ensures ∙ c.in_default.is in
     let pattern : IsPatternIn (pattern_of_rule rule) c.in-Ok.pattern =
-        subst (λ (text : Option (List ℕ)). IsPatternIn text c.in-Ok.pattern) c.pattern_of.ensures c.in-Ok.ensures.gives in
-    (late site.names.now (label_place site.labels) c.args.here _ rule none (no_pattern_refusal rule c.in-Ok.pattern pattern)
-     ∙ sym c.late_refusal.ensures ∙ c.in_default-late_refusal.is, c.in-Ok-rule_meant.ensures)
+    subst (λ (text : Option (List ℕ)). IsPatternIn text c.in-Ok.pattern) c.pattern_of.ensures c.in-Ok.ensures.gives in (
+      late site.names.now (label_place site.labels) c.args.here _ rule none (no_pattern_refusal rule c.in-Ok.pattern pattern)
+          ∙ sym c.late_refusal.ensures ∙ c.in_default-late_refusal.is,
+      c.in-Ok-rule_meant.ensures,
+    )
