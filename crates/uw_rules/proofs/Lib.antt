@@ -1,2 +1,7 @@
 mod PatternLemmas
 pub mod ArgumentLemmas
+pub mod CompileLemmas
+pub mod LabelLemmas
+pub mod RefusalLemmas
+pub mod LineLemmas
+pub mod TableLemmas

@@ -1,16 +1,10 @@
 -- What is looked for in the texts of a condition or an action.
 use Rattle.std.specs.Prelude.{ℕ, ◌<◌, ◌^◌, Bool, List, length, Option, IfSome}
-use Rattle.std.specs.HashMap.{get_by}
-use Rattle.std.specs.Str.{bytes_eq}
 use Rattle.uw_rules.specs.declared.grammar.TextKind.{TextKind}
-use Rattle.uw_rules.specs.declared.checks.Labels.{Labels}
 use Rattle.uw_rules.specs.declared.checks.Check.{Check}
 use Rattle.uw_rules.specs.declared.checks.Check.TheVariants as check
+use Rattle.uw_rules.specs.LabelSteps.{label_place}
 use Rattle.uw_rules.specs.Arguments.{Place, is_bad_place, is_bad_template, is_missed_label, is_unknown_name}
-
--- the place of a label
-unfoldable pub label_place : Labels → List ℕ → Option ℕ
-label_place labels text = get_by (λ key. bytes_eq text key.now) labels.places
 
 -- the text is shorter than 2^32 bytes, if it stands
 abbrev pub IsShortText : Option (List ℕ) → Type 0

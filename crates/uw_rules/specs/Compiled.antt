@@ -1,7 +1,6 @@
 -- What a compiled rule is of a written one.
-use Rattle.std.specs.Prelude.{◌≡◌, ℕ, ◌==◌, List, [], ◌∷◌, codes, Option, None, Some, unwrap_or, option_and_then, ℤ, pos, IsSomeAnd}
+use Rattle.std.specs.Prelude.{◌≡◌, ℕ, List, [], codes, Option, unwrap_or, option_and_then, ℤ, pos, IsSomeAnd}
 use Rattle.std.specs.List.{position_from}
-use Rattle.std.specs.Option.{option_map}
 use Rattle.std.specs.Str.{bytes_eq}
 use Rattle.uw_base.specs.Numbers.{decimal_of, signed_of}
 use Rattle.uw_model.specs.declared.calls.MathOp.{MathOp}
@@ -10,6 +9,7 @@ use Rattle.uw_rules.specs.declared.grammar.ConditionName.{ConditionName}
 use Rattle.uw_rules.specs.declared.grammar.ConditionName.TheVariants as conditions
 use Rattle.uw_rules.specs.declared.grammar.ActionName.{ActionName}
 use Rattle.uw_rules.specs.declared.grammar.ActionName.TheVariants as actions
+use Rattle.uw_rules.specs.declared.compiled.CacheWrite.{CacheWrite}
 use Rattle.uw_rules.specs.declared.compiled.Condition.{Condition}
 use Rattle.uw_rules.specs.declared.compiled.Condition.TheVariants as asks
 use Rattle.uw_rules.specs.declared.compiled.Test.{Test}
@@ -19,10 +19,10 @@ use Rattle.uw_rules.specs.declared.compiled.Action.TheVariants as does
 use Rattle.uw_rules.specs.declared.compiled.Rule.{Rule}
 use Rattle.uw_rules.specs.declared.compiled.RuleTable.{RuleTable}
 use Rattle.uw_rules.specs.declared.compiled.Rule.TheVariants as compiled
-use Rattle.uw_rules.specs.Grammar.{ArgumentShape, action_of, condition_of}
+use Rattle.uw_rules.specs.Grammar.{action_of, condition_of}
 use Rattle.uw_rules.specs.Arguments.{code_of, first_half, second_half, text_at}
 use Rattle.uw_rules.specs.Patterns.{IsPatternOf}
-use Rattle.uw_rules.specs.WrittenRules.{Phrase, WrittenTest, WrittenRule, always, matching, holding, unparted, label, rule}
+use Rattle.uw_rules.specs.WrittenRules.{Phrase, WrittenTest, WrittenRule, always, matching, holding, label, rule}
 
 -- the rules of a table
 abbrev pub rules_of : RuleTable → List Rule
@@ -43,6 +43,16 @@ or_one text = unwrap_or (option_and_then signed_of text) (pos 1)
 -- the number of the cache that a text names; none where it is left out
 unfoldable pub cache_named : List (List ℕ) → Option (List ℕ) → Option ℕ
 cache_named names text = option_and_then (λ name. position_from (bytes_eq name) 0 names) text
+
+-- a write of an entry
+abbrev pub write_of : List (List ℕ) → Option (List ℕ) → CacheWrite
+write_of names argument = record {
+  key = or_empty (text_at (codes "key") argument);
+  value = or_empty (text_at (codes "value") argument);
+  expires = or_zero (text_at (codes "expires") argument);
+  cache = cache_named names (text_at (codes "name") argument);
+  var = text_at (codes "var") argument;
+}
 
 -- a calculation with an entry
 abbrev pub math_of : List (List ℕ) → MathOp → Option (List ℕ) → Action
@@ -66,12 +76,8 @@ action_meant names labels actions.Cache argument =
     does.Cache (or_empty (text_at (codes "key") argument)) (text_at (codes "content_type") argument) (cache_named names (text_at (codes "name") argument))
 action_meant names labels actions.CacheVar argument =
     does.CacheVar (or_empty (text_at (codes "key") argument)) (cache_named names (text_at (codes "name") argument)) (or_empty (text_at (codes "var") argument))
-action_meant names labels actions.CacheSet argument =
-    does.CacheSet (or_empty (text_at (codes "key") argument)) (or_empty (text_at (codes "value") argument)) (or_zero (text_at (codes "expires") argument))
-    (cache_named names (text_at (codes "name") argument)) (text_at (codes "var") argument)
-action_meant names labels actions.CacheUpdate argument =
-    does.CacheUpdate (or_empty (text_at (codes "key") argument)) (or_empty (text_at (codes "value") argument)) (or_zero (text_at (codes "expires") argument))
-    (cache_named names (text_at (codes "name") argument)) (text_at (codes "var") argument)
+action_meant names labels actions.CacheSet argument = does.CacheSet (write_of names argument)
+action_meant names labels actions.CacheUpdate argument = does.CacheUpdate (write_of names argument)
 action_meant names labels actions.CacheDel argument =
     does.CacheDel (or_empty (text_at (codes "key") argument)) (cache_named names (text_at (codes "name") argument)) (text_at (codes "var") argument)
 action_meant names labels actions.CacheInc argument = math_of names ops.Inc argument

@@ -110,8 +110,11 @@ action_rows =
     ∷ (codes "addvar", actions.AddVar, divided_text 61 texts.Fixed texts.Template)
     ∷ (codes "addheader", actions.AddHeader, whole_text texts.Header)
     ∷ (codes "send", actions.Send, whole_text texts.Template)
-    ∷ (codes "cache", actions.Cache,
-       keyed_texts (needed (codes "key") texts.Template ∷ allowed (codes "content_type") texts.Template ∷ allowed (codes "name") texts.Cache ∷ []))
+    ∷ (
+      codes "cache",
+      actions.Cache,
+      keyed_texts (needed (codes "key") texts.Template ∷ allowed (codes "content_type") texts.Template ∷ allowed (codes "name") texts.Cache ∷ []),
+    )
     ∷ (codes "cachevar", actions.CacheVar, keyed_texts (needed (codes "key") texts.Template ∷ allowed (codes "name") texts.Cache ∷ needed (codes "var") texts.Fixed ∷ []))
     ∷ (codes "cacheset", actions.CacheSet, keyed_texts writing_keys)
     ∷ (codes "cacheupdate", actions.CacheUpdate, keyed_texts writing_keys)

@@ -3,7 +3,6 @@ use Rattle.std.specs.Prelude.{ℕ, ◌==◌, List, [], map, Option}
 use Rattle.std.specs.Borrow.{Bor}
 use Rattle.std.specs.List.{slice_split}
 use Rattle.std.specs.Option.{option_map, option_map_or}
-use Rattle.uw_rules.specs.declared.grammar.LineKind.{LineKind}
 use Rattle.uw_rules.specs.declared.grammar.Slot.{Slot}
 use Rattle.uw_rules.specs.declared.grammar.Shape.{Shape}
 use Rattle.uw_rules.specs.declared.grammar.Shape.TheVariants as code

@@ -9,3 +9,6 @@ pub mod Tables
 pub mod GrammarSteps
 pub mod CheckSteps
 pub mod WrittenSteps
+pub mod CompileSteps
+pub mod LabelSteps
+pub mod TableSteps

@@ -1,5 +1,5 @@
 -- The refusals of a line of a table, in their order (own rule).
-use Rattle.std.specs.Prelude.{ℕ, ◌==◌, nat_lt, nat_le, Bool, true, false, not, ◌&&◌, ◌||◌, if◌then◌else◌, List, [], ◌∷◌, ◌++◌, map, take, slice_get, length, Option, None, Some, is_some, is_none, option_and_then}
+use Rattle.std.specs.Prelude.{ℕ, nat_lt, nat_le, Bool, true, false, not, ◌&&◌, ◌||◌, if◌then◌else◌, List, map, take, slice_get, Option, None, Some, is_some, is_none, option_and_then}
 use Rattle.std.specs.List.{list_any, position_from}
 use Rattle.std.specs.Option.{option_map_or, option_map}
 use Rattle.std.specs.Str.{bytes_eq}
@@ -9,7 +9,7 @@ use Rattle.uw_rules.specs.declared.kinds.RuleKind.TheVariants as refusals
 use Rattle.uw_rules.specs.Grammar.{ArgumentShape, action_of, condition_of}
 use Rattle.uw_rules.specs.Arguments.{Place, is_bad_argument, is_bad_template, is_label, is_missed_label, is_unknown_name, pattern_in, places_of}
 use Rattle.uw_rules.specs.Patterns.{is_pattern}
-use Rattle.uw_rules.specs.WrittenRules.{Phrase, WrittenTest, WrittenRule, always, matching, holding, unparted, label, rule, written}
+use Rattle.uw_rules.specs.WrittenRules.{WrittenTest, WrittenRule, always, matching, holding, unparted, label, rule, written}
 
 -- ---- what a rule's texts say
 
@@ -103,21 +103,40 @@ misses_label labels here written = any_text (is_missed_label labels here) writte
 unfoldable pub has_unknown_name : List (List ℕ) → WrittenRule → Bool
 has_unknown_name names written = any_text (is_unknown_name names) written
 
--- why a rule is refused at its place in the table, where the caches have these names and the labels stand first at these places; where the maker of patterns
--- refuses each pattern, and where it refuses none
-abbrev pub refusal_of : List (List ℕ) → (List ℕ → Option ℕ) → ℕ → Bool → WrittenRule → Option RuleKind
-refusal_of names labels here refused written =
+-- why a rule is refused at its place in the table, before its pattern is looked at
+abbrev pub early_refusal : ℕ → WrittenRule → Option RuleKind
+early_refusal here written =
     if nat_le 4096 here then Some refusals.TooManyRules
     else (if is_bad_rule written then Some refusals.BadRule
     else (if has_unknown_condition written then Some refusals.UnknownCondition
+    else None))
+
+-- why a rule is refused for its pattern; where the maker of patterns refused it, it did not tell whether the text is one
+abbrev pub pattern_refusal : Bool → WrittenRule → Option RuleKind
+pattern_refusal refused written =
+    if refused && has_pattern written then Some refusals.PatternRefused
     else (if has_bad_pattern written then Some refusals.BadPattern
-    else (if refused && has_pattern written then Some refusals.PatternRefused
-    else (if has_unknown_action written then Some refusals.UnknownAction
+    else None)
+
+-- why a rule is refused behind its pattern, where the caches have these names and the labels stand first at these places
+abbrev pub late_refusal : List (List ℕ) → (List ℕ → Option ℕ) → ℕ → WrittenRule → Option RuleKind
+late_refusal names labels here written =
+    if has_unknown_action written then Some refusals.UnknownAction
     else (if has_bad_template written then Some refusals.BadTemplate
     else (if is_label_twice labels here written then Some refusals.LabelTwice
     else (if misses_label labels here written then Some refusals.LabelNotAhead
     else (if has_unknown_name names written then Some refusals.UnknownName
-    else None)))))))))
+    else None))))
+
+-- the first of two refusals
+abbrev pub first_of_two : Option RuleKind → Option RuleKind → Option RuleKind
+first_of_two (Some kind) other = Some kind
+first_of_two None other = other
+
+-- why a rule is refused at its place in the table: for what comes before its pattern, for its pattern, or for what comes behind it
+unfoldable pub refusal_of : List (List ℕ) → (List ℕ → Option ℕ) → ℕ → Bool → WrittenRule → Option RuleKind
+refusal_of names labels here refused written =
+    first_of_two (early_refusal here written) (first_of_two (pattern_refusal refused written) (late_refusal names labels here written))
 
 -- ---- tables
 
@@ -128,7 +147,7 @@ table_of lines = map written lines
 -- the rule is the label of this text
 abbrev pub is_label_of : List ℕ → WrittenRule → Bool
 is_label_of text unparted = false
-is_label_of text (label other) = bytes_eq text other
+is_label_of text (label other) = bytes_eq other text
 is_label_of text (rule test action) = false
 
 -- the number of the rule that is a label: of the first one, since a later one is refused, as is one behind the 4,096th rule

@@ -1,5 +1,5 @@
 -- What reading a table answers.
-use Rattle.std.specs.Prelude.{◌≡◌, ◌⊎◌, ℕ, ◌<◌, ◌^◌, Bool, true, false, is_some, List, [], ◌∷◌, map, slice_get, length, Option, None, Some, IsSomeAnd, Result, Ok, Err, All}
+use Rattle.std.specs.Prelude.{◌≡◌, ◌⊎◌, ℕ, ◌<◌, ◌^◌, true, false, is_some, List, [], ◌∷◌, map, slice_get, length, Option, None, Some, IsSomeAnd, Result, Ok, Err, All}
 use Rattle.std.specs.List.Sorted.{IsStrictlyIncreasing}
 use Rattle.std.specs.Str.{IsUtf8}
 use Rattle.uw_outside.specs.Faults.{Rose}

@@ -9,6 +9,7 @@ use Rattle.uw_rules.specs.declared.written.WrittenTest as code_test
 use Rattle.uw_rules.specs.declared.written.WrittenTest.TheVariants as code_tests
 use Rattle.uw_rules.specs.declared.written.WrittenRule as code_rule
 use Rattle.uw_rules.specs.declared.written.WrittenRule.TheVariants as code_rules
+use Rattle.uw_rules.specs.CheckSteps.{IsShortText}
 use Rattle.uw_rules.specs.WrittenRules.{Phrase, WrittenTest, WrittenRule, always, matching, holding, unparted, label, rule, phrase_of}
 
 -- a condition or an action
@@ -33,3 +34,19 @@ parted_seen text None = list_any (λ byte. byte == 32) text ≡ false
 parted_seen text (Some parts) =
     (list_any (λ byte. byte == 32) text ≡ true) × (parts.0.now ≡ before_first (λ byte. byte == 32) text)
     × (phrase_seen parts.1 ≡ phrase_of (without_blanks (after_first (λ byte. byte == 32) text)))
+
+-- the argument is short
+abbrev pub IsShortPhrase : Phrase → Type 0
+IsShortPhrase phrase = IsShortText phrase.argument
+
+-- the argument of the condition is short
+abbrev pub IsShortTest : WrittenTest → Type 0
+IsShortTest always = Unit {0}
+IsShortTest (matching subject pattern) = Unit {0}
+IsShortTest (holding negated condition) = IsShortPhrase condition
+
+-- the arguments of the rule are short
+abbrev pub AreShort : WrittenRule → Type 0
+AreShort unparted = Unit {0}
+AreShort (label text) = Unit {0}
+AreShort (rule test action) = IsShortTest test × IsShortPhrase action

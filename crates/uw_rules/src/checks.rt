@@ -4,13 +4,13 @@ ghost use Rattle.std.specs.List.{list_any};
 ghost use Rattle.std.specs.Option.{option_copied};
 ghost use Rattle.std.specs.Str.{bytes_eq};
 ghost use Rattle.uw_rules.specs.Arguments.{code_of, is_ahead, is_bad_template, is_bad_text, is_label, places_of};
-ghost use Rattle.uw_rules.specs.CheckSteps.{failing, IsShortText, label_place, place_at};
+ghost use Rattle.uw_rules.specs.CheckSteps.{failing, IsShortText, place_at};
 ghost use Rattle.uw_rules.specs.Grammar.{keyed_texts};
 ghost use Rattle.uw_rules.specs.GrammarSteps.{shape_seen, slot_seen};
 
 use crate::arguments::{first_half, second_half, text_at};
 use crate::grammar::{Shape, Slot, TextKind};
-use std::collections::HashMap;
+use crate::labels::Labels;
 use uw_base::texts::{cut, is};
 use uw_base::{Bytes, read_decimal, read_signed};
 use uw_subst::is_template;
@@ -23,22 +23,6 @@ const CODES: [u16; 15] = [
     200, 204, 301, 302, 304, 400, 401, 403, 404, 405, 410, 413, 429, 500, 503,
 ];
 
-/// The places of labels in a table: of each the first.
-#[derive(Drop)]
-pub struct Labels<'a> {
-    pub places: HashMap<&'a [u8], u32>,
-}
-
-impl<'a> Labels<'a> {
-    /// The place of a label.
-#[tactic(auto, unfolding(crate::specs::CheckSteps::label_place))]
-    pub fn place(&self, label: &[u8]) -> Option<u32>
-        ensures { result ≡ label_place self.now label.now }
-    {
-        self.places.get(label).copied()
-    }
-}
-
 /// What is looked for.
 #[derive(Clone, Copy)]
 pub enum Check<'a> {
@@ -47,7 +31,7 @@ pub enum Check<'a> {
     /// A template with a bad form.
     Template,
     /// A label that does not stand behind this place.
-    Label { labels: &'a Labels<'a>, here: u32 },
+    Label { labels: &'a Labels<'a>, here: usize },
     /// The name of a cache that is none of these, or none where there is no cache.
     Name(&'a [Bytes]),
 }
@@ -211,11 +195,11 @@ impl<'a> Check<'a> {
 }
 
 // Whether a label's place is behind this one.
-fn is_ahead(here: u32, label: Option<u32>) -> bool
+fn is_ahead(here: usize, label: Option<u32>) -> bool
     ensures { result ≡ is_ahead here label }
 {
     match label {
-        Some(place) => here < place,
+        Some(place) => here < place as usize,
         None => false,
     }
 }

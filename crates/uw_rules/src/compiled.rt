@@ -38,26 +38,55 @@ pub enum Test {
     Holds { negated: bool, condition: Condition },
 }
 
+/// Writes the value of a key, and puts the answer into a variable.
+#[derive(Drop)]
+pub struct CacheWrite {
+    pub key: Template,
+    pub value: Template,
+    pub expires: u64,
+    pub cache: Option<u32>,
+    pub var: Option<Bytes>,
+}
+
 /// What a rule does. Caches are named by their numbers, none standing for the first one; `expires` is in seconds.
 #[derive(Drop)]
 pub enum Action {
     /// Ends the table.
     Continue,
     /// Ends the request with this status, or closes.
-    Break { status: Option<Bytes> },
+    Break {
+        status: Option<Bytes>,
+    },
     /// Ends the request with the status of this code.
-    Return { code: u16 },
+    Return {
+        code: u16,
+    },
     /// Goes on at the rule of this number, which is a later one.
-    Goto { rule: u32 },
-    Redirect { to: Template },
-    RedirectPermanent { to: Template },
+    Goto {
+        rule: u32,
+    },
+    Redirect {
+        to: Template,
+    },
+    RedirectPermanent {
+        to: Template,
+    },
     /// Replaces the path, and the query string behind a `?`.
-    Rewrite { to: Template },
+    Rewrite {
+        to: Template,
+    },
     /// Sets a variable.
-    AddVar { key: Bytes, value: Template },
-    AddHeader { line: Template },
+    AddVar {
+        key: Bytes,
+        value: Template,
+    },
+    AddHeader {
+        line: Template,
+    },
     /// Puts a text at the end of the body.
-    Send { text: Template },
+    Send {
+        text: Template,
+    },
     /// Answers with the value of a key, if there is one. Without a content type it is `text/html`.
     Cache {
         key: Template,
@@ -70,21 +99,8 @@ pub enum Action {
         cache: Option<u32>,
         var: Bytes,
     },
-    /// Sets a key, and puts the answer into a variable.
-    CacheSet {
-        key: Template,
-        value: Template,
-        expires: u64,
-        cache: Option<u32>,
-        var: Option<Bytes>,
-    },
-    CacheUpdate {
-        key: Template,
-        value: Template,
-        expires: u64,
-        cache: Option<u32>,
-        var: Option<Bytes>,
-    },
+    CacheSet(CacheWrite),
+    CacheUpdate(CacheWrite),
     CacheDel {
         key: Template,
         cache: Option<u32>,

@@ -1,4 +1,7 @@
 // Why a rule is refused.
+ghost use Rattle.std.specs.Prelude.{◌≡◌};
+
+use uw_base::Memory;
 
 /// Why a line of a table is refused.
 #[derive(Clone, Copy, Debug, PartialEq, Eq)]
@@ -30,4 +33,32 @@ pub enum RulesError {
     Refused { line: u32, kind: RuleKind },
     /// No memory was left.
     Memory,
+}
+
+/// Why a step of reading a rule gives nothing, before the number of its line is known.
+#[derive(Clone, Copy, Debug, PartialEq, Eq)]
+pub enum Refusal {
+    Refused(RuleKind),
+    /// No memory was left.
+    Memory,
+}
+
+impl From<Memory> for Refusal {
+    ghost use Rattle.uw_rules.specs.declared.kinds.Refusal.TheVariants as refusals;
+
+    ghost from_gives = { λ _ refusal. refusal ≡ refusals.Memory };
+
+    fn from(_: Memory) -> Refusal {
+        Refusal::Memory
+    }
+}
+
+impl From<Memory> for RulesError {
+    ghost use Rattle.uw_rules.specs.declared.kinds.RulesError.TheVariants as errors;
+
+    ghost from_gives = { λ _ error. error ≡ errors.Memory };
+
+    fn from(_: Memory) -> RulesError {
+        RulesError::Memory
+    }
 }

@@ -4,10 +4,14 @@
 mod arguments;
 mod checks;
 pub mod compiled;
+mod compiling;
 mod grammar;
+mod judging;
 mod kinds;
+mod labels;
 mod lines;
 pub mod patterns;
+mod reading;
 pub mod regex_patterns;
 mod written;
 
@@ -16,6 +20,7 @@ pub use grammar::{Subject, is_rule_option};
 pub use kinds::{RuleKind, RulesError};
 pub use lines::{RuleLine, RuleLineList};
 pub use patterns::{Built, Patterns};
+pub use reading::read_rules;
 pub use regex_patterns::RegexPatterns;
 
 #[cfg(test)]

@@ -20,9 +20,15 @@ pub struct Phrase<'a> {
 pub enum WrittenTest<'a> {
     Always,
     /// A pattern matches in the subject.
-    Matching { subject: Subject, pattern: &'a [u8] },
+    Matching {
+        subject: Subject,
+        pattern: &'a [u8],
+    },
     /// A condition holds; or, where it is negated, it does not.
-    Holding { negated: bool, condition: Phrase<'a> },
+    Holding {
+        negated: bool,
+        condition: Phrase<'a>,
+    },
 }
 
 /// A rule.
