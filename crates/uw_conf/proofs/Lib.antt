@@ -8,3 +8,5 @@ pub mod RefusalLemmas
 pub mod OtherSectionLemmas
 pub mod LastLineLemmas
 mod WalkLemmas
+mod RuleTextLemmas
+mod DecideLemmas

@@ -1,5 +1,5 @@
 -- What the code answers against what is defined. Want of memory alone is free.
-use Rattle.std.specs.Prelude.{◌≡◌, ◌⊎◌, ℕ, ◌≤◌, true, List, Option, Some, slice_get, IsSomeAnd, Result, Ok, Err, IfErr}
+use Rattle.std.specs.Prelude.{◌≡◌, ◌⊎◌, ℕ, ◌≤◌, true, List, length, Option, Some, slice_get, IsSomeAnd, Result, Ok, Err, IfErr}
 use Rattle.std.specs.Str.Lines.{lines}
 use Rattle.uw_outside.specs.Faults.{Rose}
 use Rattle.uw_rules.specs.declared.kinds.RuleKind.TheVariants as refusals
@@ -13,7 +13,7 @@ use Rattle.uw_conf.specs.declared.conf.ConfError.{ConfError}
 use Rattle.uw_conf.specs.declared.conf.ConfError.TheVariants as errors
 use Rattle.uw_conf.specs.declared.conf.ConfKind.TheVariants as kinds
 use Rattle.uw_conf.specs.declared.conf.Options.{Options}
-use Rattle.uw_conf.specs.Configuration.{configuration_of, said_by}
+use Rattle.uw_conf.specs.Configuration.{configuration_of, most_text_bytes, said_by}
 use Rattle.uw_conf.specs.Routes.{cache_names_of, rule_lines_of}
 
 -- a configuration without its rules
@@ -41,9 +41,15 @@ pub record IsPatternRefused (lines : List (List ℕ)) (fault : ConfFault) : Type
   pub kind : fault.kind ≡ kinds.Rule refusals.PatternRefused
   pub least : IfErr (said_by lines) (λ (other : ConfFault). fault.line ≤ other.line)
 
--- a reading is the defined configuration with its rules; or the least refused line; or a rule's line whose pattern the maker of patterns refused and counted, and before
--- which none is refused
+-- a reading of lines is the defined configuration with its rules; or the least refused line; or a rule's line whose pattern the maker of patterns refused and counted,
+-- and before which none is refused
+abbrev pub ReadsLines : List (List ℕ) → ℕ → ℕ → Result Conf ConfError → Type 0
+ReadsLines lines before after (Ok conf) = (said_by lines ≡ Ok (options_in conf)) × HasRoutesOf lines conf
+ReadsLines lines before after (Err (errors.Refused fault)) = (said_by lines ≡ Err fault) ⊎ (IsPatternRefused lines fault × Rose before after)
+ReadsLines lines before after (Err errors.Memory) = Unit {0}
+
+-- the same of a text, which is refused as a whole where it is too large
 abbrev pub ReadsConf : List ℕ → ℕ → ℕ → Result Conf ConfError → Type 0
 ReadsConf text before after (Ok conf) = (configuration_of text ≡ Ok (options_in conf)) × HasRoutesOf (lines text) conf
-ReadsConf text before after (Err (errors.Refused fault)) = (configuration_of text ≡ Err fault) ⊎ (IsPatternRefused (lines text) fault × Rose before after)
+ReadsConf text before after (Err (errors.Refused fault)) = (configuration_of text ≡ Err fault) ⊎ ((length text ≤ most_text_bytes) × IsPatternRefused (lines text) fault × Rose before after)
 ReadsConf text before after (Err errors.Memory) = Unit {0}

@@ -8,3 +8,4 @@ pub mod Given
 pub mod Sound
 pub mod ReadingSteps
 pub mod Laws
+pub mod DecidingSteps

@@ -3,6 +3,7 @@
 
 mod caches;
 pub mod conf;
+mod deciding;
 mod draft;
 pub mod laws;
 mod lines;

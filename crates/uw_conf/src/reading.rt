@@ -6,6 +6,7 @@ ghost use Rattle.uw_conf.specs.Reading.{blank_conf, blank_reading, read_line, wi
 ghost use Rattle.uw_conf.specs.Routes.{rule_in, rule_of_line, rules_inside};
 ghost use Rattle.uw_conf.specs.ReadingSteps.{Makes, PutsRules, StepsOver, WalksOver, line_seen, progress_seen};
 ghost use Rattle.uw_conf.specs.Sound.{AreCaches};
+ghost use Rattle.uw_rules.specs.Tables.{AreRuleLines};
 
 use crate::conf::Options;
 use crate::lines::{LineKind, is_utf8, line_of, next_line};
@@ -163,6 +164,7 @@ pub fn walk_over(alloc: Global, text: &[u8]) -> Result<Walk, Memory>
     requires { length text.now ≤ 1048576 }
     ensures over { IfOk result (WalksOver (lines text.now)) }
     ensures sound { IfOk result (λ walk. AreCaches walk.progress.options.caches) }
+    ensures rules { IfOk result (λ walk. AreRuleLines walk.progress.rules) }
 {
     let mut walk = Walk {
         progress: Progress::new(alloc),

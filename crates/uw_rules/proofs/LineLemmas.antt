@@ -94,7 +94,7 @@ behind_utf8 c text false is ascii h =
     let none : drop (position_or_len test text + 1) text ≡ [] = drop_all (position_or_len test text + 1) text (omega arith) in
     rw none IsUtf8-nil
 
-after_utf8 : (c : ℕ) (text : List ℕ) → c < 128 → IsUtf8 text → IsUtf8 (after_first (λ byte. byte == c) text)
+pub after_utf8 : (c : ℕ) (text : List ℕ) → c < 128 → IsUtf8 text → IsUtf8 (after_first (λ byte. byte == c) text)
 after_utf8 c text ascii h = behind_utf8 c text (nat_lt (position_or_len (λ byte. byte == c) text) (length text)) refl ascii h
 
 if_utf8 : (b : Bool) (text : List ℕ) → IsUtf8 text → IfSome (cond b (Some text) None) IsUtf8

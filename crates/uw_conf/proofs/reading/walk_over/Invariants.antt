@@ -6,6 +6,8 @@ use Rattle.uw_conf.specs.Reading.{blank_reading, read_lines, reading_after}
 use Rattle.uw_conf.specs.ReadingSteps.{progress_seen}
 use Rattle.uw_conf.specs.Routes.{rule_lines_of, rules_behind}
 use Rattle.uw_conf.specs.Sound.{AreCaches}
+use Rattle.std.specs.List.{AllByRecursion}
+use Rattle.uw_rules.specs.Tables.{IsRuleLine}
 use Rattle.uw_conf.proofs.reading.walk_over.Given as goal
 
 -- the lines that are left, behind those so far, are the text's
@@ -17,6 +19,8 @@ invariant-lines l =
       fault : option_or l.walk.fault (fault_of_reading (read_lines (Ok (progress_seen l.walk.progress)) l.number (lines l.left))) ≡ first_refused_option (lines l.text);
       within : l.number + length l.left ≤ 1048577;
       caches : AreCaches l.walk.progress.options.caches;
+      table : AllByRecursion IsRuleLine l.walk.progress.rules;
+      short : length l.left ≤ 1048576;
     }
 
 abbrev pub decreases-lines : goal.decreases-lines
