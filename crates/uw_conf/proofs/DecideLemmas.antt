@@ -94,6 +94,18 @@ pub lesser_none : (own : Option ConfFault) → lesser_fault own None ≡ own
 lesser_none None = refl
 lesser_none (Some fault) = refl
 
+not_below : (r f g : ℕ) → nat_lt r f ≡ false → r ≤ g → nat_lt g f ≡ false
+not_below r f g t bound = grind (arith, nat_tests)
+
+-- no line before that of a fault is refused
+abbrev Bounded : ConfFault → Result Options ConfFault → Type 0
+Bounded refused said = IfErr said (λ (other : ConfFault). refused.line ≤ other.line)
+
+lesser_bound : (refused : ConfFault) (test : Bool) (g f : ConfFault) (options : Options) → refused.line ≤ g.line → refused.line ≤ f.line
+    → Bounded refused (unless_fault (cond test (Some g) (Some f)) options)
+lesser_bound refused true g f options low high = low
+lesser_bound refused false g f options low high = high
+
 -- a rule's pattern is refused: an option's line before it is the least refused one, or no line before it is refused
 pattern_case : (said : Result Options ConfFault) (own first : Option ConfFault) (options : Options) (refused result : ConfFault)
     → said ≡ unless_fault (lesser_fault own first) options → IfSome first (λ (fault : ConfFault). refused.line ≤ fault.line) → lesser_fault own (Some refused) ≡ Some result
@@ -104,28 +116,18 @@ pattern_case said None (Some g) options refused result e bound least =
     inr (sym (cc), subst (λ (x : Result Options ConfFault). IfErr x (λ (other : ConfFault). refused.line ≤ other.line)) (sym e) bound)
 pattern_case said (Some f) first options refused result e bound least = by_test (nat_lt refused.line f.line) refl first e bound least
   where
-    abbrev Bounded : Result Options ConfFault → Type 0
-    Bounded x = IfErr x (λ (other : ConfFault). refused.line ≤ other.line)
-
-    lesser_bound : (test : Bool) (g : ConfFault) → refused.line ≤ g.line → refused.line ≤ f.line → Bounded (unless_fault (cond test (Some g) (Some f)) options)
-    lesser_bound true g low high = low
-    lesser_bound false g low high = high
-
     by_test : (test : Bool) → nat_lt refused.line f.line ≡ test → (first : Option ConfFault) → said ≡ unless_fault (lesser_fault (Some f) first) options
         → IfSome first (λ (fault : ConfFault). refused.line ≤ fault.line) → cond test (Some refused) (Some f) ≡ Some result
-        → (said ≡ Err result) ⊎ ((result ≡ refused) × Bounded said)
+        → (said ≡ Err result) ⊎ ((result ≡ refused) × Bounded refused said)
     by_test true t None e bound least =
-        let below : refused.line ≤ f.line = grind (arith, nat_tests) in inr (sym (cc), subst Bounded (sym e) below)
+        let below : refused.line ≤ f.line = grind (arith, nat_tests) in inr (sym (cc), subst (Bounded refused) (sym e) below)
     by_test true t (Some g) e bound least =
-        let below : refused.line ≤ f.line = grind (arith, nat_tests) in inr (sym (cc), subst Bounded (sym e) (lesser_bound (nat_lt g.line f.line) g bound below))
+        let below : refused.line ≤ f.line = grind (arith, nat_tests) in inr (sym (cc), subst (Bounded refused) (sym e) (lesser_bound refused (nat_lt g.line f.line) g f options bound below))
     by_test false t None e bound least = let same : f ≡ result = cc in inl (e ∙ ap (λ (x : ConfFault). Err x) same)
     by_test false t (Some g) e bound least =
         let same : f ≡ result = cc in
         let above : nat_lt g.line f.line ≡ false = not_below refused.line f.line g.line t bound in
         inl (e ∙ ap (λ (test : Bool). unless_fault (cond test (Some g) (Some f)) options) above ∙ ap (λ (x : ConfFault). Err x) same)
-      where
-        not_below : (r f g : ℕ) → nat_lt r f ≡ false → r ≤ g → nat_lt g f ≡ false
-        not_below r f g t bound = grind (arith, nat_tests)
 
 -- the least of what the options and the first refused rule are refused for
 pub said_refused : (lines : List (List ℕ)) (walk : Walk) (before after line : ℕ) (kind : RuleKind) (result : ConfFault) → WalksOver lines walk
@@ -135,26 +137,20 @@ said_refused lines walk before after line kind result over first least =
     ⊎_elim
     (λ text. inl (said_walk lines walk over
         ∙ ap (λ (x : Option ConfFault). unless_fault (lesser_fault walk.fault x) walk.progress.options)
-          (refused_there names all 0 first.here line kind all first.number (from_start names all first.here first.earlier) (at_here (Some kind) text))
+          (refused_there (cache_names_of lines) (rule_lines_of lines) 0 first.here line kind (rule_lines_of lines) first.number (from_start (cache_names_of lines) (rule_lines_of lines) first.here first.earlier) (at_here (Some kind) text))
         ∙ ap (λ (x : Option ConfFault). unless_fault x walk.progress.options) least))
     (λ pattern. ⊎_elim
         inl
         (λ own. inr (record {
           here = first.here;
-          line = subst (λ (n : ℕ). IsSomeAnd (slice_get all first.here) (λ (rule : RuleLine). rule.line ≡ n)) (sym (ap (λ (x : ConfFault). x.line) own.0)) first.number;
+          line = subst (λ (n : ℕ). IsSomeAnd (slice_get (rule_lines_of lines) first.here) (λ (rule : RuleLine). rule.line ≡ n)) (sym (ap (λ (x : ConfFault). x.line) own.0)) first.number;
           refused = pattern.0 ∙ ap (λ (k : RuleKind). Some k) pattern.1;
           kind = ap (λ (x : ConfFault). x.kind) own.0 ∙ ap (λ (k : RuleKind). kinds.Rule k) pattern.1;
           least = subst (λ (n : ℕ). IfErr (said_by lines) (λ (other : ConfFault). n ≤ other.line)) (sym (ap (λ (x : ConfFault). x.line) own.0)) own.1;
         }, pattern.2))
         (pattern_case (said_by lines) walk.fault (first_rule lines) walk.progress.options (rule_refused_at line kind) result (said_walk lines walk over)
-        (refused_from names all 0 1 first.here line all (rules_rise blank_reading 1 lines) first.number (from_start names all first.here first.earlier)) least))
+        (refused_from (cache_names_of lines) (rule_lines_of lines) 0 1 first.here line (rule_lines_of lines) (rules_rise blank_reading 1 lines) first.number (from_start (cache_names_of lines) (rule_lines_of lines) first.here first.earlier)) least))
     first.cause
   where
-    abbrev names : List (List ℕ)
-    names = cache_names_of lines
-
-    abbrev all : List RuleLine
-    all = rule_lines_of lines
-
-    at_here : (found : Option RuleKind) → rule_refusal names all first.here false ≡ found → rule_refusal names all (0 + first.here) false ≡ found
-    at_here found e = let same : first.here ≡ 0 + first.here = omega arith in subst (λ (n : ℕ). rule_refusal names all n false ≡ found) same e
+    at_here : (found : Option RuleKind) → rule_refusal (cache_names_of lines) (rule_lines_of lines) first.here false ≡ found → rule_refusal (cache_names_of lines) (rule_lines_of lines) (0 + first.here) false ≡ found
+    at_here found e = let same : first.here ≡ 0 + first.here = omega arith in subst (λ (n : ℕ). rule_refusal (cache_names_of lines) (rule_lines_of lines) n false ≡ found) same e

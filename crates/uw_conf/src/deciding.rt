@@ -29,19 +29,25 @@ fn with_routes(walk: Walk, routes: RuleTable) -> Result<Conf, ConfError>
     }
 }
 
+// The least refused line, where a rule's is refused.
+fn refused(walk: Walk, error: RulesError) -> ConfError
+    ensures { (lines : List (List ℕ)) (before after : ℕ) → Decides lines walk before after (Err error) (Err result) }
+{
+    match error {
+        RulesError::Refused { line, kind } => {
+            let kind = ConfKind::Rule(kind);
+            ConfError::Refused(lesser(walk.fault, ConfFault { line, kind }))
+        }
+        RulesError::Memory => ConfError::Memory,
+    }
+}
+
 /// The configuration, or its least refused line, behind a walk over its lines and a reading of its rules.
 pub fn decided(walk: Walk, rules: Result<RuleTable, RulesError>) -> Result<Conf, ConfError>
     ensures { (lines : List (List ℕ)) (before after : ℕ) → Decides lines walk before after rules result }
 {
     match rules {
         Ok(routes) => with_routes(walk, routes),
-        Err(RulesError::Refused { line, kind }) => {
-            let refused = ConfFault {
-                line,
-                kind: ConfKind::Rule(kind),
-            };
-            Err(ConfError::Refused(lesser(walk.fault, refused)))
-        }
-        Err(RulesError::Memory) => Err(ConfError::Memory),
+        Err(error) => Err(refused(walk, error)),
     }
 }
