@@ -1,7 +1,7 @@
 // A commit and its recovery, stopped at each of their writes.
 ghost use Rattle.std.specs.Prelude.{◌≡◌, ◌∷◌, [], length, IfOk, true};
 ghost use Rattle.uw_words.specs.Plans.{region};
-ghost use Rattle.uw_intent.specs.RedoRecord.{IsFrame, IsFit, IsIntact};
+ghost use Rattle.uw_intent.specs.RedoRecord.{IsFrame, IsIntact};
 
 use crate::{Frame, WordWrite, commit, is_pending, laws, nth_repair, nth_write, recover};
 use std::alloc::{AllocError, Global};

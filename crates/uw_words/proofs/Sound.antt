@@ -4,7 +4,7 @@ use Rattle.std.specs.Vec.{vec_capacity}
 use Rattle.std.specs.declared.alloc.Global.{Global}
 use Rattle.std.proofs.lemmas.List.{length-replicate}
 use Rattle.uw_words.specs.Plans.{planned, Names, through, with_put, HasDistinctPlaces}
-use Rattle.uw_words.specs.Slots.{place, IsTable}
+use Rattle.uw_words.specs.Slots.{place, IsTable, Passes, PassesAll}
 use Rattle.uw_words.specs.SlotSteps.{Ends}
 use Rattle.uw_words.specs.Overlays.{IsSound}
 use Rattle.uw_words.proofs.Tables.{table_empty}
@@ -32,6 +32,11 @@ sound_empty room most writes slots none capacity empty within fewest enough =
 pub ends_in : (plan plan' : List (ℕ × ℕ)) (slots slots' : List ℕ) (at slot : ℕ) → plan' ≡ plan → slots' ≡ slots → Ends plan' slots' at slot → Ends plan slots at slot
 ends_in plan plan' slots slots' at slot same_plan same_slots ends =
     subst (λ (l : List ℕ). Ends plan l at slot) same_slots (subst (λ (l : List (ℕ × ℕ)). Ends l slots' at slot) same_plan ends)
+
+-- what is read at a place whose bit is not set
+pub read_sifted : (sieve : List ℕ) (plan : List (ℕ × ℕ)) (at : ℕ) (reader : ℕ → ℕ) → PassesAll sieve plan → (Passes sieve at → ⊥) → through plan reader at ≡ reader at
+read_sifted sieve plan at reader all out =
+    ap (λ (word : Option ℕ). unwrap_or word (reader at)) (planned_none plan at (λ k h is. out (subst (Passes sieve) is (all k h))))
 
 module _ (plan : List (ℕ × ℕ)) (slots : List ℕ) (at slot number : ℕ) (ends : Ends plan slots at slot) (is : number ≡ get_or slots slot 0) where
   -- the search ended at a number

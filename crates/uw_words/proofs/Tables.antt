@@ -107,10 +107,10 @@ table_empty n = record {
         let all : count_by (λ number. eqb number 0) (replicate n 0) ≡ n * 1 = sum_by-replicate (λ (m : ℕ). cond (eqb m 0) 1 0) n 0 in
         omega (arith, all, length-replicate {A = ℕ} n 0)
 
-place-push : (plan : List (ℕ × ℕ)) (at word k : ℕ) → k < length plan → place (plan ++ (at, word) ∷ []) k ≡ place plan k
+pub place-push : (plan : List (ℕ × ℕ)) (at word k : ℕ) → k < length plan → place (plan ++ (at, word) ∷ []) k ≡ place plan k
 place-push plan at word k h = ap (λ (p : ℕ × ℕ). p.0) (get_or_append_left plan ((at, word) ∷ []) (0, 0) k h)
 
-place_last : (plan : List (ℕ × ℕ)) (at word k : ℕ) → length plan ≡ k → place (plan ++ (at, word) ∷ []) k ≡ at
+pub place_last : (plan : List (ℕ × ℕ)) (at word k : ℕ) → length plan ≡ k → place (plan ++ (at, word) ∷ []) k ≡ at
 place_last plan at word k h = ap (λ (p : ℕ × ℕ). p.0) (get_or_push plan (at, word) (0, 0) k h)
 
 -- one more write, at the empty slot where the search for its place ended
@@ -179,21 +179,21 @@ table_push plan slots at word slot number table within way free is = record {
         omega (arith, longer, length-set slots slot number, table.empty, changed, was, now)
 
 -- a new word for a place that is planned
+pub place-set : (plan : List (ℕ × ℕ)) (at word k j : ℕ) → k < length plan → place plan k ≡ at → place (set plan k (at, word)) j ≡ place plan j
+place-set plan at word k j within is = elim (cases_eq j k) [
+  | inl same ↦
+      ap (place (set plan k (at, word))) same ∙ ap (λ (p : ℕ × ℕ). p.0) (get_or-set_same plan k (at, word) (0, 0) within) ∙ sym is ∙ sym (ap (place plan) same)
+  | inr other ↦ ap (λ (p : ℕ × ℕ). p.0) (get_or-set_other plan k j (at, word) (0, 0) other)
+]
+
 pub table_set : (plan : List (ℕ × ℕ)) (slots : List ℕ) (at word k : ℕ) → IsTable plan slots → place plan k ≡ at → k < length plan → IsTable (set plan k (at, word)) slots
 table_set plan slots at word k table is within = record {
   numbers = λ slot. omega (arith, length-set plan k (at, word), table.numbers slot);
   found = λ j h.
       let old = table.found j (omega (arith, length-set plan k (at, word))) in
-      (old.0, subst (λ (p : ℕ). Reaches slots p old.0) (sym (same_place j)) old.1, old.2);
+      (old.0, subst (λ (p : ℕ). Reaches slots p old.0) (sym (place-set plan at word k j within is)) old.1, old.2);
   empty = omega (arith, length-set plan k (at, word), table.empty);
 }
-  where
-    same_place : (j : ℕ) → place (set plan k (at, word)) j ≡ place plan j
-    same_place j = elim (cases_eq j k) [
-      | inl same ↦
-          ap (place (set plan k (at, word))) same ∙ ap (λ (p : ℕ × ℕ). p.0) (get_or-set_same plan k (at, word) (0, 0) within) ∙ sym is ∙ sym (ap (place plan) same)
-      | inr other ↦ ap (λ (p : ℕ × ℕ). p.0) (get_or-set_other plan k j (at, word) (0, 0) other)
-    ]
 
 -- the next write of a plan joins the table of those before it
 pub table_next : (plan : List (ℕ × ℕ)) (slots : List ℕ) (k slot number : ℕ) → HasDistinctPlaces plan → k < length plan → IsTable (take k plan) slots

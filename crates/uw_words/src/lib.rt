@@ -2,13 +2,17 @@
 //! read in place of the region's.
 #![tactic(auto)]
 
+pub mod laws;
 mod overlay;
 mod ram;
 mod shape;
+mod sieve;
 mod slots;
 #[cfg(test)]
 mod tests;
+mod texts;
 
 pub use overlay::Overlay;
 pub use ram::Ram;
 pub use shape::Shape;
+pub use texts::first_word;

@@ -3,6 +3,7 @@ ghost use Rattle.std.specs.Prelude.{◌≡◌, ◌+◌, ◌-◌, ◌<◌, ◌≤
 ghost use Rattle.uw_words.specs.Plans.{region, through, with_put, Names, HasDistinctPlaces};
 
 use crate::ram::Ram;
+use crate::sieve::{SIEVE_WORDS, admit, passes};
 use crate::slots::{empty, rebuild, seek};
 use std::alloc::Global;
 use std::marker::Model;
@@ -25,17 +26,20 @@ pub struct Overlay {
     // so that a few writes need few slots, whatever the room is.
     slots: Vec<u64>,
     most_slots: usize,
+    // It keeps out most places that are not planned, in one step.
+    sieve: [u64; SIEVE_WORDS],
 }
 
 impl Model for Overlay {
     ghost use Rattle.uw_words.specs.Plans.{Plan};
     ghost use Rattle.uw_words.specs.Overlays.{IsSound};
+    ghost use Rattle.uw_words.specs.Slots.{PassesAll};
 
     ghost Value = { Plan };
 
     ghost view = { λ o. record { writes = o.writes.items; room = o.room } };
 
-    ghost invariant = { λ o. IsSound o.room o.writes o.slots o.most_slots };
+    ghost invariant = { λ o. IsSound o.room o.writes o.slots o.most_slots × PassesAll o.sieve o.writes.items };
 }
 
 impl Overlay {
@@ -55,6 +59,7 @@ impl Overlay {
             writes,
             slots,
             most_slots,
+            sieve: [0; SIEVE_WORDS],
         })
     }
 
@@ -63,6 +68,9 @@ impl Overlay {
         requires { at < length ram.now }
         ensures { result ≡ through self.now.writes (region ram.now) at }
     {
+        if !passes(&self.sieve, at) {
+            return ram.load(at);
+        }
         let slot = seek(&self.slots, &self.writes, at);
         let number = self.slots[slot] as usize;
         if number == 0 {
@@ -82,6 +90,7 @@ impl Overlay {
             self.writes[number - 1] = (at, word);
             return;
         }
+        admit(&mut self.sieve, at);
         let _ = self.writes.push((at, word));
         self.slots[slot] = self.writes.len() as u64;
         if self.slots.len() <= 2 * self.writes.len() {
@@ -96,6 +105,7 @@ impl Overlay {
     {
         self.writes.clear();
         empty(&mut self.slots, FEWEST_SLOTS);
+        self.sieve = [0; SIEVE_WORDS];
     }
 
     /// How many more places it can name.

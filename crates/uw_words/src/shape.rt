@@ -1,4 +1,7 @@
 // Where the parts of a cache's region stand.
+ghost use Rattle.std.specs.Prelude.{◌≡◌, ◌+◌, ◌<◌, ◌≤◌, ◌↔◌, IsNone, IfSome};
+ghost use Rattle.uw_words.specs.Shapes.{IsShape};
+ghost use Rattle.uw_words.specs.Walks.{link_of, IsLink};
 
 /// The places of a cache's region, by word numbers from 0, and the sizes by which its parts are reckoned.
 #[derive(Clone, Copy, Debug, PartialEq, Eq)]
@@ -29,4 +32,29 @@ pub struct Shape {
     pub key_words: u64,
     /// The words of one block.
     pub block_words: u64,
+}
+
+impl Shape {
+    /// The link of an item: the place of its first word. Takes no memory.
+    pub fn link_of(&self, item: u64) -> u64
+        requires shape { IsShape self.now }
+        requires item { item < self.now.n_items }
+        ensures link { result ≡ link_of self.now item }
+        ensures within { result + 8 ≤ self.now.blocks }
+    {
+        self.items + item * self.stride
+    }
+
+    /// The item of a link, none for the link 0. Takes no memory.
+    pub fn item_of(&self, link: u64) -> Option<u64>
+        requires shape { IsShape self.now }
+        requires link { IsLink self.now link }
+        ensures none { IsNone result ↔ (link ≡ 0) }
+        ensures item { IfSome result (λ item. (item < self.now.n_items) × (link ≡ link_of self.now item)) }
+    {
+        if link == 0 {
+            return None;
+        }
+        Some((link - self.items) / self.stride)
+    }
 }

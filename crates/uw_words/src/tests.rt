@@ -1,5 +1,5 @@
 // Words, refused words and planned words.
-use crate::{Overlay, Ram, Shape};
+use crate::{Overlay, Ram, Shape, first_word};
 use std::alloc::{AllocError, Global};
 use std::test::Fail;
 use uw_outside::{Died, Fuse, Immortal, Life};
@@ -118,7 +118,7 @@ fn no_place_is_forgotten_after_many(rt: HostRuntime) -> Result<(), Fail> {
 }
 
 #[test]
-fn a_shape_is_compared_by_its_places(rt: HostRuntime) {
+fn a_shape_has_links_and_is_compared_by_its_places(rt: HostRuntime) {
     let shape = Shape {
         head: 0,
         bitmap: 16,
@@ -134,8 +134,29 @@ fn a_shape_is_compared_by_its_places(rt: HostRuntime) {
         key_words: 1,
         block_words: 8,
     };
+    assert_eq!(rt; shape.link_of(0), 21);
+    assert_eq!(rt; shape.link_of(3), 48);
+    assert_eq!(rt; shape.item_of(shape.link_of(3)), Some(3));
+    assert_eq!(rt; shape.item_of(0), None);
     let mut other = shape;
     assert_eq!(rt; shape, other);
     other.stride = 8;
     assert_ne!(rt; shape, other);
+}
+
+#[test]
+fn eight_bytes_are_a_word(rt: HostRuntime) {
+    let texts: [(&[u8], u64); 5] = [
+        (b"", 0),
+        (b"a", 97),
+        (b"ab", 97 + 98 * 256),
+        (b"\x01\x02\x03\x04\x05\x06\x07\x80", 0x8007_0605_0403_0201),
+        (
+            b"\x01\x02\x03\x04\x05\x06\x07\x80\xff",
+            0x8007_0605_0403_0201,
+        ),
+    ];
+    for (text, word) in texts {
+        assert_eq!(rt; first_word(text), word, "{text:?}");
+    }
 }

@@ -1,8 +1,8 @@
-use Rattle.std.proofs.Common.{◌≡◌, ◌-◌, ℕ, ◌∙◌, ap, sym, get_or}
+use Rattle.std.proofs.Common.{◌≡◌, ◌-◌, ℕ, ◌∙◌, ap, sym, get_or, true, false, arith}
 use Rattle.std.proofs.lemmas.List.{get_or_read}
 use Rattle.uw_words.specs.Plans.{region}
 use Rattle.uw_words.specs.SlotSteps.{Ends}
-use Rattle.uw_words.proofs.Sound.{ends_in, is_named, read_free, read_named}
+use Rattle.uw_words.proofs.Sound.{ends_in, is_named, read_free, read_named, read_sifted}
 use Rattle.uw_words.proofs.overlay.Overlay.load.Goals as goal
 use Rattle.uw_words.proofs.overlay.Overlay.load.Goals.{After-index}
 
@@ -17,7 +17,7 @@ returns-then-number-eq0 c =
     let at = (goal.at.returns-then-number-eq0 c).After-index in
     let inside = c.self.inside in
     rw (← c.self.view_is)
-    (c.load.ensures ∙ sym (read_free inside.writes.items inside.slots.items c.args.at c.seek-slot.result c.index.result.now (ends at) (number at) (region c.args.ram.now) c.if-number-eq0.true))
+    (c.load-then-number-eq0.ensures ∙ sym (read_free inside.writes.items inside.slots.items c.args.at c.seek-slot.result c.index.result.now (ends at) (number at) (region c.args.ram.now) c.if-number-eq0.true))
 
 pub returns : goal.returns
 returns c =
@@ -28,4 +28,9 @@ returns c =
     let read = get_or_read plan (c.index.result.now - 1) c.index-2.result.now named.0 c.index-2.ensures (0, 0) in
     rw (← c.self.view_is)
     (ap (λ (p : ℕ × ℕ). p.1) read
-    ∙ sym (read_named plan inside.slots.items c.args.at c.seek-slot.result c.index.result.now (ends at) (number at) (region c.args.ram.now) c.self.invariant.distinct c.if-number-eq0.false))
+    ∙ sym (read_named plan inside.slots.items c.args.at c.seek-slot.result c.index.result.now (ends at) (number at) (region c.args.ram.now) c.self.invariant.0.distinct c.if-number-eq0.false))
+
+pub returns-then-not-passes : goal.returns-then-not-passes
+returns-then-not-passes c =
+    rw (← c.self.view_is)
+    (c.load.ensures ∙ sym (read_sifted c.self.inside.sieve c.self.inside.writes.items c.args.at (region c.args.ram.now) c.self.invariant.1 (λ passes. let both : true ≡ false = sym (c.passes.ensures passes) ∙ c.if-not-passes.true in grind (arith, both))))

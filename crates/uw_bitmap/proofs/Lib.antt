@@ -1,0 +1,5 @@
+pub mod Searches
+pub mod WordBits
+pub mod Blocks
+pub mod Steps
+pub mod Runs

@@ -1,0 +1,125 @@
+// A region whose words are planned, committed and recovered again and again.
+ghost use Rattle.std.specs.Prelude.{◌≡◌, ◌<◌, ◌≤◌, length};
+
+use std::alloc::Global;
+use std::marker::Model;
+use uw_base::Memory;
+use uw_intent::{Frame, commit, is_pending, laws, recover};
+use uw_outside::{Fuse, Immortal};
+use uw_words::{Overlay, Ram};
+
+/// As many words as a plan may have here.
+pub const MOST: u64 = 1000;
+
+const FRAME: Frame = Frame {
+    gate: 10,
+    used: 11,
+    start: 12,
+    room: 3 * MOST,
+};
+
+// The first place that is planned, and how many there are from it on.
+const FIRST: u64 = 4096;
+
+const PLACES: u64 = 65_536;
+
+// A number without a common factor with the number of places, by which each place is away from the one before it.
+const STRIDE: u64 = 40_503;
+
+/// Words with their redo record, and a plan for them.
+#[derive(Drop)]
+pub struct Region {
+    ram: Ram,
+    plan: Overlay,
+}
+
+impl Model for Region {
+    ghost use Rattle.words_bench.specs.Regions.{IsRegion};
+    ghost use Rattle.uw_words.specs.Plans.{Plan};
+    ghost use Rattle.std.specs.Prelude.{List, ℕ};
+
+    ghost Value = { List ℕ × Plan };
+
+    ghost view = { λ r. (r.ram, r.plan) };
+
+    ghost invariant = { λ r. IsRegion r.ram r.plan };
+}
+
+// The place of this number.
+fn place(number: u64) -> u64
+    ensures { (4096 ≤ result) × (result < 69632) }
+{
+    FIRST + number.wrapping_mul(STRIDE) % PLACES
+}
+
+impl Region {
+    /// Words that are zero, with a plan that has room for so many places.
+    pub fn new(alloc: Global, room: u64) -> Result<Region, Memory> {
+        Ok(Region {
+            ram: Ram::new(alloc, FIRST + PLACES)?,
+            plan: Overlay::new(alloc, room)?,
+        })
+    }
+
+    /// Plans a word for the place of this number, where there is room.
+    pub fn put(&mut self, number: u64, word: u64) {
+        if self.plan.count() < MOST && self.plan.spare() > 0 {
+            self.plan.put(place(number), word);
+        }
+    }
+
+    /// The word at the place of this number, as it is planned.
+    pub fn planned(&self, number: u64) -> u64 {
+        self.plan.load(&self.ram, place(number))
+    }
+
+    /// Goes from place to place, so many: the word of each says how far on the next one is, one more than it says.
+    pub fn follow(&self, number: u64, links: u64) -> u64 {
+        let mut next = number;
+        for _ in 0..links {
+            next = self
+                .ram
+                .load(place(next))
+                .wrapping_add(next)
+                .wrapping_add(1);
+        }
+        next
+    }
+
+    /// The same as they are planned.
+    pub fn follow_planned(&self, number: u64, links: u64) -> u64 {
+        let mut next = number;
+        for _ in 0..links {
+            let word = self.plan.load(&self.ram, place(next));
+            next = word.wrapping_add(next).wrapping_add(1);
+        }
+        next
+    }
+
+    /// Plans nothing any more.
+    pub fn clear(&mut self) {
+        self.plan.clear();
+    }
+
+    /// Writes what is planned.
+    pub fn commit(&mut self) {
+        if is_pending(&self.ram, &FRAME) {
+            return;
+        }
+        laws::writes_keep_the_number_of_words();
+        let _ = commit(&mut self.ram, &FRAME, &self.plan, &mut Immortal::new());
+    }
+
+    /// Dies at the first planned word of a commit, and recovers.
+    pub fn recover(&mut self, alloc: Global) -> Result<(), Memory> {
+        if is_pending(&self.ram, &FRAME) {
+            return Ok(());
+        }
+        let mut numbers = Vec::with_capacity(alloc, 1)?;
+        numbers.push(3 * self.plan.count() + 3)?;
+        laws::writes_keep_the_number_of_words();
+        let _ = commit(&mut self.ram, &FRAME, &self.plan, &mut Fuse::new(numbers));
+        let _ = recover(&mut self.ram, &FRAME, &mut Immortal::new());
+        Ok(())
+    }
+}
