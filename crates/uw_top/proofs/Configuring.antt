@@ -7,18 +7,19 @@ use Rattle.uw_outside.proofs.Streams.{Takes-none}
 use Rattle.uw_outside.specs.Streams.{Inflow}
 use Rattle.uw_packet.specs.Reads.{IsOver}
 use Rattle.uw_conf.specs.declared.conf.Conf.{Conf}
-use Rattle.uw_conf.specs.Configuration.{configuration_of, most_text_bytes}
+use Rattle.uw_conf.specs.declared.conf.ConfFault.{ConfFault}
+use Rattle.uw_conf.specs.Configuration.{most_text_bytes}
 use Rattle.uw_ends.specs.declared.ends.RunFault.{RunFault}
 use Rattle.uw_ends.specs.declared.ends.RunFault.TheVariants as faults
 use Rattle.uw_top.specs.Run.{ReadsText}
 use Rattle.uw_top.specs.RunSteps.{GivesConf, Says}
 
 -- what a text says is the configuration that is given, or the refusal
-pub conf_given : (r : Inflow) (text : List ℕ) (result : Result Conf RunFault) → ReadsText r text → Says (configuration_of text) result → GivesConf configuration_of r result
-conf_given r text (Ok conf) read says = (text, read, says)
-conf_given r text (Err (faults.Conf fault)) read says = (text, read, says)
-conf_given r text (Err faults.Memory) read says = (text, read.taken, read.few)
-conf_given r text (Err _) read says = absurd says
+pub conf_given : (said : List ℕ → Result Conf ConfFault → Type 0) (r : Inflow) (text : List ℕ) (result : Result Conf RunFault) → ReadsText r text → Says (said text) result → GivesConf said r result
+conf_given said r text (Ok conf) read says = (text, read, says)
+conf_given said r text (Err (faults.Conf fault)) read says = (text, read, says)
+conf_given said r text (Err faults.Memory) read says = (text, read.taken, read.few)
+conf_given said r text (Err _) read says = absurd says
 
 -- a buffer of one byte more than a text may have was filled
 pub read_full : (r : Inflow) (text : List ℕ) → Takes r.before r.now (take (length text) text) → length text ≡ most_text_bytes + 1 → ReadsText r text

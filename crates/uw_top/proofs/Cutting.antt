@@ -9,6 +9,7 @@ use Rattle.uw_packet.specs.Packet.{header_bytes, IsPacket}
 use Rattle.uw_packet.proofs.BlockLaws.{packet_unique}
 use Rattle.uw_conf.specs.declared.conf.Conf.{Conf}
 use Rattle.uw_conf.specs.Configuration.{configuration_of}
+use Rattle.uw_conf.specs.Given.{options_in}
 use Rattle.uw_conf.specs.Sound.{HasLimits}
 use Rattle.uw_conf.proofs.OptionLemmas.{limits_kept, blank_limits}
 use Rattle.uw_conf.proofs.ReadingLemmas.{configuration_keeps}
@@ -51,7 +52,7 @@ cut_in_one_way conf (x ∷ xs) (y ∷ ys) small a b moments bytes =
     ap₂ (λ (z : Exchange) (zs : List Exchange). z ∷ zs) (exchange_same x y moment same.0 same.1) (cut_in_one_way conf xs ys small a.1 b.1 others same.2)
 
 -- the limit of a configuration is a number that two bytes can hold
-pub small_limit : (text : List ℕ) (conf : Conf) → configuration_of text ≡ Ok conf → conf.buffer_size < 2 ^ 16
+pub small_limit : (text : List ℕ) (conf : Conf) → configuration_of text ≡ Ok (options_in conf) → conf.buffer_size < 2 ^ 16
 small_limit text conf says =
-    let limits = configuration_keeps HasLimits limits_kept blank_limits text conf says in
+    let limits = configuration_keeps HasLimits limits_kept blank_limits text (options_in conf) says in
     omega (arith, limits.buffer_size.1)
