@@ -1,21 +1,27 @@
 -- The least refused line, behind a walk over the lines and a reading of their rules.
 use Rattle.std.proofs.Common.{◌≡◌, ℕ, zero, suc, ◌+◌, ◌<◌, ◌≤◌, Bool, true, false, cond, nat_lt, List, [], ◌∷◌, length, Option, Some, None, Result, Ok, Err, IfSome, refl, sym, ap, subst, ◌∙◌, arith, ◌⊎◌, inl, inr, ⊎_elim}
-use Rattle.std.specs.Prelude.{IfErr, IsSomeAnd, if◌then◌else◌, slice_get}
+use Rattle.std.specs.Prelude.{IfErr, IsSomeAnd, map, slice_get}
 use Rattle.std.specs.Option.{option_map, option_or}
 use Rattle.std.proofs.lemmas.Bool.Decides.{nat_tests}
 use Rattle.uw_outside.specs.Faults.{Rose}
 use Rattle.uw_rules.specs.declared.lines.RuleLine.{RuleLine}
 use Rattle.uw_rules.specs.declared.kinds.RuleKind.{RuleKind}
-use Rattle.uw_rules.specs.declared.kinds.RuleKind.TheVariants as refusals
-use Rattle.uw_rules.specs.declared.kinds.RulesError.TheVariants as errors
+use Rattle.uw_rules.specs.declared.kinds.RulesError.{RulesError}
+use Rattle.uw_rules.specs.declared.compiled.RuleTable.{RuleTable}
+use Rattle.uw_model.specs.declared.conf.CacheConf.{CacheConf}
+use Rattle.uw_conf.specs.declared.conf.Conf.{Conf}
+use Rattle.uw_conf.specs.declared.conf.ConfError.{ConfError}
+use Rattle.uw_conf.specs.declared.conf.ConfError.TheVariants as conf_errors
+use Rattle.std.specs.Str.Lines.{lines}
+use Rattle.std.proofs.lemmas.Bool.{cond-false}
 use Rattle.uw_rules.specs.Rules.{refusal_at as rule_refusal}
-use Rattle.uw_rules.specs.Tables.{IsFirstRefused, NoneRefusedBefore}
+use Rattle.uw_rules.specs.Tables.{IsFirstRefused, NoneRefusedBefore, ReadsRules}
 use Rattle.uw_conf.specs.declared.conf.ConfFault.{ConfFault}
 use Rattle.uw_conf.specs.declared.conf.ConfKind.TheVariants as kinds
 use Rattle.uw_conf.specs.declared.conf.Options.{Options}
 use Rattle.uw_conf.specs.declared.reading.Walk.{Walk}
-use Rattle.uw_conf.specs.Configuration.{lesser_fault, said_by, unless_fault}
-use Rattle.uw_conf.specs.Given.{IsPatternRefused}
+use Rattle.uw_conf.specs.Configuration.{configuration_of, lesser_fault, most_text_bytes, said_by, unless_fault}
+use Rattle.uw_conf.specs.Given.{IsPatternRefused, ReadsConf, ReadsLines}
 use Rattle.uw_conf.specs.Reading.{ReadSoFar, blank_reading, reading_after}
 use Rattle.uw_conf.specs.ReadingSteps.{WalksOver}
 use Rattle.uw_conf.specs.Routes.{cache_names_of, first_refused_rule, rule_lines_of, rule_refused_at}
@@ -136,21 +142,49 @@ pub said_refused : (lines : List (List ℕ)) (walk : Walk) (before after line : 
 said_refused lines walk before after line kind result over first least =
     ⊎_elim
     (λ text. inl (said_walk lines walk over
-        ∙ ap (λ (x : Option ConfFault). unless_fault (lesser_fault walk.fault x) walk.progress.options)
-          (refused_there (cache_names_of lines) (rule_lines_of lines) 0 first.here line kind (rule_lines_of lines) first.number (from_start (cache_names_of lines) (rule_lines_of lines) first.here first.earlier) (at_here (Some kind) text))
-        ∙ ap (λ (x : Option ConfFault). unless_fault x walk.progress.options) least))
+    ∙ ap (λ (x : Option ConfFault). unless_fault (lesser_fault walk.fault x) walk.progress.options)
+    (refused_there (cache_names_of lines) (rule_lines_of lines) 0 first.here line kind (rule_lines_of lines) first.number (from_start (cache_names_of lines) (rule_lines_of lines) first.here first.earlier) (at_here (Some kind) text))
+    ∙ ap (λ (x : Option ConfFault). unless_fault x walk.progress.options) least))
     (λ pattern. ⊎_elim
-        inl
-        (λ own. inr (record {
-          here = first.here;
-          line = subst (λ (n : ℕ). IsSomeAnd (slice_get (rule_lines_of lines) first.here) (λ (rule : RuleLine). rule.line ≡ n)) (sym (ap (λ (x : ConfFault). x.line) own.0)) first.number;
-          refused = pattern.0 ∙ ap (λ (k : RuleKind). Some k) pattern.1;
-          kind = ap (λ (x : ConfFault). x.kind) own.0 ∙ ap (λ (k : RuleKind). kinds.Rule k) pattern.1;
-          least = subst (λ (n : ℕ). IfErr (said_by lines) (λ (other : ConfFault). n ≤ other.line)) (sym (ap (λ (x : ConfFault). x.line) own.0)) own.1;
-        }, pattern.2))
-        (pattern_case (said_by lines) walk.fault (first_rule lines) walk.progress.options (rule_refused_at line kind) result (said_walk lines walk over)
-        (refused_from (cache_names_of lines) (rule_lines_of lines) 0 1 first.here line (rule_lines_of lines) (rules_rise blank_reading 1 lines) first.number (from_start (cache_names_of lines) (rule_lines_of lines) first.here first.earlier)) least))
+    inl
+    (λ own. inr (
+      record {
+        here = first.here;
+        line = subst (λ (n : ℕ). IsSomeAnd (slice_get (rule_lines_of lines) first.here) (λ (rule : RuleLine). rule.line ≡ n)) (sym (ap (λ (x : ConfFault). x.line) own.0)) first.number;
+        refused = pattern.0 ∙ ap (λ (k : RuleKind). Some k) pattern.1;
+        kind = ap (λ (x : ConfFault). x.kind) own.0 ∙ ap (λ (k : RuleKind). kinds.Rule k) pattern.1;
+        least = subst (λ (n : ℕ). IfErr (said_by lines) (λ (other : ConfFault). n ≤ other.line)) (sym (ap (λ (x : ConfFault). x.line) own.0)) own.1;
+      },
+      pattern.2,
+    ))
+    (pattern_case (said_by lines) walk.fault (first_rule lines) walk.progress.options (rule_refused_at line kind) result (said_walk lines walk over)
+    (refused_from (cache_names_of lines) (rule_lines_of lines) 0 1 first.here line (rule_lines_of lines) (rules_rise blank_reading 1 lines) first.number (from_start (cache_names_of lines) (rule_lines_of lines) first.here first.earlier)) least))
     first.cause
   where
     at_here : (found : Option RuleKind) → rule_refusal (cache_names_of lines) (rule_lines_of lines) first.here false ≡ found → rule_refusal (cache_names_of lines) (rule_lines_of lines) (0 + first.here) false ≡ found
     at_here found e = let same : first.here ≡ 0 + first.here = omega arith in subst (λ (n : ℕ). rule_refusal (cache_names_of lines) (rule_lines_of lines) n false ≡ found) same e
+
+-- ---- the reading of a text
+
+-- the rules were read under the names and lines that the text has
+pub reads_rules_of : (lines : List (List ℕ)) (walk : Walk) (names : List (List ℕ)) (before after : ℕ) (result : Result RuleTable RulesError) → WalksOver lines walk
+    → names ≡ map (λ (cache : CacheConf). cache.name) walk.progress.options.caches → ReadsRules names walk.progress.rules before after result
+    → ReadsRules (cache_names_of lines) (rule_lines_of lines) before after result
+reads_rules_of lines walk names before after result over same reads =
+    subst (λ (rules : List RuleLine). ReadsRules (cache_names_of lines) rules before after result) over.rules
+    (subst (λ (names : List (List ℕ)). ReadsRules names walk.progress.rules before after result)
+    (same ∙ ap (λ (r : ReadSoFar). map (λ (cache : CacheConf). cache.name) r.conf.caches) over.reading) reads)
+
+not_above : (a b : ℕ) → b ≤ a → nat_lt a b ≡ false
+not_above a b h = grind (arith, nat_tests)
+
+small_text : (text : List ℕ) → length text ≤ most_text_bytes → configuration_of text ≡ said_by (lines text)
+small_text text small = cond-false (nat_lt most_text_bytes (length text)) _ (said_by (lines text)) (not_above most_text_bytes (length text) small)
+
+-- a text within the limit says what its lines say
+pub reads_conf_of : (text : List ℕ) (before after : ℕ) (result : Result Conf ConfError) → length text ≤ most_text_bytes → ReadsLines (lines text) before after result
+    → ReadsConf text before after result
+reads_conf_of text before after (Ok conf) small reads = (small_text text small ∙ reads.0, reads.1)
+reads_conf_of text before after (Err (conf_errors.Refused fault)) small reads =
+    ⊎_elim (λ said. inl (small_text text small ∙ said)) (λ pattern. inr (small, pattern.0, pattern.1)) reads
+reads_conf_of text before after (Err conf_errors.Memory) small reads = tt

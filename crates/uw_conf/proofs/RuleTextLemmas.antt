@@ -1,5 +1,5 @@
 -- The texts of rules are texts of UTF-8, and no longer than their lines.
-use Rattle.std.proofs.Common.{◌≡◌, ℕ, zero, suc, ◌+◌, ◌<◌, ◌≤◌, ◌^◌, Bool, true, false, cond, ◌||◌, ◌&&◌, ◌==◌, List, [], ◌∷◌, ◌++◌, length, take, drop, reverse, refl, sym, ap, subst, ◌∙◌, arith, Option, Some, None, get_or, IsUtf8}
+use Rattle.std.proofs.Common.{◌≡◌, ℕ, zero, suc, ◌+◌, ◌<◌, ◌≤◌, ◌^◌, Bool, true, false, ◌||◌, ◌&&◌, ◌==◌, List, [], ◌∷◌, ◌++◌, length, take, reverse, refl, sym, ap, subst, ◌∙◌, arith, Option, Some, None, IsUtf8}
 use Rattle.std.specs.Prelude.{if◌then◌else◌, is_some, IsAscii, All, slice_index, map}
 use Rattle.std.specs.List.{AllByRecursion, list_any, before_first, after_first, position_or_len}
 use Rattle.std.specs.List.Sorted.{IsStrictlyIncreasing}
@@ -15,7 +15,7 @@ use Rattle.uw_rules.specs.declared.lines.RuleLine.{RuleLine}
 use Rattle.uw_rules.specs.Grammar.{kind_of_line}
 use Rattle.uw_rules.specs.Tables.{AreRuleLines, IsRuleLine}
 use Rattle.uw_rules.proofs.LineLemmas.{after_utf8}
-use Rattle.uw_conf.specs.Lines.{Line, nothing, section, option, broken, ends_with_byte, line_of, option_line, parted}
+use Rattle.uw_conf.specs.Lines.{Line, nothing, section, option, broken, ends_with_byte, line_of, option_line}
 use Rattle.uw_conf.specs.Routes.{rule_in, rule_of_line, rules_inside}
 use Rattle.uw_conf.proofs.RouteLemmas.{RisesFrom}
 
@@ -64,7 +64,7 @@ end_utf8 text h =
     let parts = parts_of (reverse text) in
     let front = reverse (without_blanks (reverse text)) in
     let whole : text ≡ front ++ reverse parts.blanks =
-        sym (reverse-reverse text) ∙ ap reverse parts.whole ∙ reverse-append parts.blanks (without_blanks (reverse text))
+    sym (reverse-reverse text) ∙ ap reverse parts.whole ∙ reverse-append parts.blanks (without_blanks (reverse text))
     in
     let cut : take (length front) text ≡ front = ap (take (length front)) whole ∙ take-append_seam front (reverse parts.blanks) in
     subst IsUtf8 cut (IsUtf8-take text (length front) h (IsCharBoundary-at_seam text front (reverse parts.blanks) whole parts.utf8))

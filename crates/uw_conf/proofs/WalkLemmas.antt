@@ -4,10 +4,9 @@ use Rattle.std.specs.Option.{option_or}
 use Rattle.uw_rules.specs.declared.lines.RuleLine.{RuleLine}
 use Rattle.uw_conf.specs.declared.conf.ConfFault.{ConfFault}
 use Rattle.uw_conf.specs.declared.conf.ConfKind.{ConfKind}
-use Rattle.uw_conf.specs.declared.reading.Walk.{Walk}
 use Rattle.uw_conf.specs.Configuration.{fault_of_reading}
 use Rattle.uw_conf.specs.Reading.{ReadSoFar, at_line, read_line, read_lines, reading_after, refused_at, unless_refused}
-use Rattle.uw_conf.specs.ReadingSteps.{StepsOver, fault_of_line, progress_seen}
+use Rattle.uw_conf.specs.ReadingSteps.{fault_of_line}
 use Rattle.uw_conf.specs.Routes.{rule_in, rules_behind}
 
 -- what was said stays, behind one line more

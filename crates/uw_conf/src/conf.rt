@@ -2,7 +2,7 @@
 ghost use Rattle.std.specs.Prelude.{◌≡◌};
 ghost use Rattle.uw_conf.specs.Given.{options_in};
 
-use uw_base::Bytes;
+use uw_base::{Bytes, Memory};
 use uw_model::CacheConfList;
 use uw_rules::{RuleKind, RuleTable};
 
@@ -94,4 +94,14 @@ pub enum ConfError {
     Refused(ConfFault),
     /// No memory was left.
     Memory,
+}
+
+impl From<Memory> for ConfError {
+    ghost use Rattle.uw_conf.specs.declared.conf.ConfError.TheVariants as errors;
+
+    ghost from_gives = { λ _ error. error ≡ errors.Memory };
+
+    fn from(_: Memory) -> ConfError {
+        ConfError::Memory
+    }
 }

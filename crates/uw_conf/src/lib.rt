@@ -1,4 +1,4 @@
-//! The configuration: what a text of options says, or its first refused line.
+//! The configuration: what a text of options and rules says, or its least refused line.
 #![tactic(auto)]
 
 mod caches;
@@ -14,6 +14,7 @@ mod sizes;
 mod values;
 
 pub use conf::{Conf, ConfError, ConfFault, ConfKind, Options};
+pub use deciding::read_conf;
 pub use sizes::region_words;
 
 #[cfg(test)]

@@ -1,4 +1,4 @@
-use Rattle.std.proofs.Common.{Result, Err, ap, subst}
+use Rattle.std.proofs.Common.{Err, subst}
 use Rattle.uw_rules.specs.declared.kinds.RulesError.{RulesError}
 use Rattle.uw_rules.specs.Tables.{ReadsRules}
 use Rattle.uw_conf.specs.Routes.{cache_names_of, rule_lines_of}

@@ -1,7 +1,6 @@
 use Rattle.std.proofs.Common.{◌≡◌, ℕ, List, [], ◌++◌, ap, sym, subst, ◌∙◌, arith}
 use Rattle.std.proofs.lemmas.List.{append-nil}
 use Rattle.std.specs.List.{AllByRecursion}
-use Rattle.std.specs.Prelude.{length, ◌≤◌, ◌<◌, ◌^◌}
 use Rattle.std.specs.Str.Lines.{lines}
 use Rattle.uw_rules.specs.Tables.{IsRuleLine}
 use Rattle.uw_conf.specs.Routes.{rule_in, rule_lines_of, rules_behind}
@@ -44,6 +43,6 @@ pub returns-clause-rules : goal.returns-clause-rules
 returns-clause-rules c =
     let rules = c.lines.walk.progress.rules in
     let same : rules ++ [] ≡ rule_lines_of (lines c.args.text.now) =
-        sym (ap (λ (left : List (List ℕ)). rules ++ rules_behind (progress_seen c.lines.walk.progress) c.lines.number left) c.in_default.ensures.line) ∙ c.lines.invariant.rules
+    sym (ap (λ (left : List (List ℕ)). rules ++ rules_behind (progress_seen c.lines.walk.progress) c.lines.number left) c.in_default.ensures.line) ∙ c.lines.invariant.rules
     in
     rule_lines 1 rules c.lines.invariant.table (subst (RisesFrom 1) (sym same ∙ append-nil rules) (rules_rise blank_reading 1 (lines c.args.text.now)))
