@@ -25,3 +25,5 @@ pub use regex_patterns::RegexPatterns;
 
 #[cfg(test)]
 mod pattern_tests;
+#[cfg(test)]
+mod tests;
