@@ -2,6 +2,7 @@
 ghost use Rattle.std.specs.Prelude.{◌≡◌, ◌<◌, ◌^◌, ◌⊎◌, [], ℕ, false, map, None, Some};
 ghost use Rattle.std.specs.String.{string_bytes};
 ghost use Rattle.uw_outside.specs.Streams.{inflow, outflow};
+ghost use Rattle.uw_conf.specs.Given.{options_in};
 ghost use Rattle.uw_conf.specs.Sound.{AreCaches};
 ghost use Rattle.uw_conf.specs.declared.conf.Conf.{Conf};
 ghost use Rattle.uw_ends.specs.declared.ends.RunFault.TheVariants as faults;
@@ -45,14 +46,14 @@ pub fn run<F: Source, M: Patterns, S: Source, K: Sink, C: Clock>(
     ensures pipes { command_of (map string_bytes words.now) ≡ Some (commands.Pipe []) → Runs (IsSaid (M.faults make.old) (M.faults make.new))
         (inflow F.left F.ended F.faults conf.old conf.new)
         ((src.new ≡ src.old) × (snk.new ≡ snk.old) × (clock.new ≡ clock.old) × (result.briefs ≡ [])) result.fault
-        (λ c. PipeRun c
+        (λ c. PipeRun (options_in c)
         (inflow S.left S.ended S.faults src.old src.new)
         (outflow K.taken K.faults snk.old snk.new)
         (C.gave clock.old clock.new) result.briefs result.fault) }
     ensures loads { (first count : ℕ) → command_of (map string_bytes words.now) ≡ Some (commands.Load first count) → Runs (IsSaidWithACache (M.faults make.old) (M.faults make.new))
         (inflow F.left F.ended F.faults conf.old conf.new)
         ((src.new ≡ src.old) × (snk.new ≡ snk.old) × (clock.new ≡ clock.old) × (result.briefs ≡ [])) result.fault
-        (λ c. (src.new ≡ src.old) × (result.briefs ≡ []) × LoadRun c first count
+        (λ c. (src.new ≡ src.old) × (result.briefs ≡ []) × LoadRun (options_in c) first count
         (outflow K.taken K.faults snk.old snk.new)
         (C.gave clock.old clock.new) result.fault) }
 {
@@ -91,7 +92,7 @@ fn pipe<F: Source, M: Patterns, S: Source, K: Sink, C: Clock>(
     ensures pipes { Runs (IsSaid (M.faults make.old) (M.faults make.new))
         (inflow F.left F.ended F.faults conf.old conf.new)
         ((src.new ≡ src.old) × (snk.new ≡ snk.old) × (clock.new ≡ clock.old) × (result.briefs ≡ [])) result.fault
-        (λ c. PipeRun c
+        (λ c. PipeRun (options_in c)
         (inflow S.left S.ended S.faults src.old src.new)
         (outflow K.taken K.faults snk.old snk.new)
         (C.gave clock.old clock.new) result.briefs result.fault) }
@@ -112,7 +113,7 @@ fn piped<S: Source, K: Sink, C: Clock>(
 ) -> RunEnd
     requires { AreCaches conf.caches }
     ensures status { result.status ≡ status_of result.fault }
-    ensures pipes { PipeRun conf
+    ensures pipes { PipeRun (options_in conf)
         (inflow S.left S.ended S.faults src.old src.new)
         (outflow K.taken K.faults snk.old snk.new)
         (C.gave clock.old clock.new) result.briefs result.fault }
@@ -142,7 +143,7 @@ fn load_over<F: Source, M: Patterns, K: Sink, C: Clock>(
     ensures loads { Runs (IsSaidWithACache (M.faults make.old) (M.faults make.new))
         (inflow F.left F.ended F.faults conf.old conf.new)
         ((snk.new ≡ snk.old) × (clock.new ≡ clock.old)) result.fault
-        (λ c. LoadRun c first count
+        (λ c. LoadRun (options_in c) first count
         (outflow K.taken K.faults snk.old snk.new)
         (C.gave clock.old clock.new) result.fault) }
 {
