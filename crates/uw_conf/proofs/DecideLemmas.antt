@@ -21,7 +21,8 @@ use Rattle.uw_conf.specs.declared.conf.ConfKind.TheVariants as kinds
 use Rattle.uw_conf.specs.declared.conf.Options.{Options}
 use Rattle.uw_conf.specs.declared.reading.Walk.{Walk}
 use Rattle.uw_conf.specs.Configuration.{configuration_of, lesser_fault, most_text_bytes, said_by, unless_fault}
-use Rattle.uw_conf.specs.Given.{IsPatternRefused, ReadsConf, ReadsLines}
+use Rattle.uw_conf.specs.Given.{IsPatternRefused, ReadsConf}
+use Rattle.uw_conf.specs.DecidingSteps.{ReadsLines}
 use Rattle.uw_conf.specs.Reading.{ReadSoFar, blank_reading, reading_after}
 use Rattle.uw_conf.specs.ReadingSteps.{WalksOver}
 use Rattle.uw_conf.specs.Routes.{cache_names_of, first_refused_rule, rule_lines_of, rule_refused_at}

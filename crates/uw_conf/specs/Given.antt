@@ -41,14 +41,8 @@ pub record IsPatternRefused (lines : List (List ℕ)) (fault : ConfFault) : Type
   pub kind : fault.kind ≡ kinds.Rule refusals.PatternRefused
   pub least : IfErr (said_by lines) (λ (other : ConfFault). fault.line ≤ other.line)
 
--- a reading of lines is the defined configuration with its rules; or the least refused line; or a rule's line whose pattern the maker of patterns refused and counted,
+-- a reading of a text is the defined configuration with its rules; or the least refused line; or a rule's line whose pattern the maker of patterns refused and counted,
 -- and before which none is refused
-abbrev pub ReadsLines : List (List ℕ) → ℕ → ℕ → Result Conf ConfError → Type 0
-ReadsLines lines before after (Ok conf) = (said_by lines ≡ Ok (options_in conf)) × HasRoutesOf lines conf
-ReadsLines lines before after (Err (errors.Refused fault)) = (said_by lines ≡ Err fault) ⊎ (IsPatternRefused lines fault × Rose before after)
-ReadsLines lines before after (Err errors.Memory) = Unit {0}
-
--- the same of a text, which is refused as a whole where it is too large
 abbrev pub ReadsConf : List ℕ → ℕ → ℕ → Result Conf ConfError → Type 0
 ReadsConf text before after (Ok conf) = (configuration_of text ≡ Ok (options_in conf)) × HasRoutesOf (lines text) conf
 ReadsConf text before after (Err (errors.Refused fault)) = (configuration_of text ≡ Err fault) ⊎ ((length text ≤ most_text_bytes) × IsPatternRefused (lines text) fault × Rose before after)
