@@ -7,7 +7,7 @@ use Rattle.std.specs.Prelude.{min}
 use Rattle.std.proofs.lemmas.List.{length-map, length-take-le, map-append, take_more}
 use Rattle.std.proofs.lemmas.Slice.Eq.{bytes_eq-Decides}
 use Rattle.uw_rules.specs.declared.lines.RuleLine.{RuleLine}
-use Rattle.uw_rules.specs.WrittenRules.{WrittenRule, written}
+use Rattle.uw_rules.specs.WrittenRules.{WrittenRule, rule_of_line}
 use Rattle.uw_rules.specs.Rules.{is_label_of, place_of_label, table_of}
 use Rattle.uw_rules.specs.LabelSteps.{or_place}
 
@@ -63,25 +63,25 @@ take_min (suc n) (x ∷ xs) =
 
 -- the rules of one line more
 pub table_more : (lines : List RuleLine) (place : ℕ) (line : RuleLine) → place < length lines → line ≡ get_or lines place line
-    → table_of (take (place + 1) lines) ≡ table_of (take place lines) ++ written line ∷ []
+    → table_of (take (place + 1) lines) ≡ table_of (take place lines) ++ rule_of_line line ∷ []
 table_more lines place line here is =
-    ap table_of (take_more lines place line here) ∙ map-append written (take place lines) (get_or lines place line ∷ [])
-    ∙ ap (λ (l : RuleLine). table_of (take place lines) ++ written l ∷ []) (sym is)
+    ap table_of (take_more lines place line here) ∙ map-append rule_of_line (take place lines) (get_or lines place line ∷ [])
+    ∙ ap (λ (l : RuleLine). table_of (take place lines) ++ rule_of_line l ∷ []) (sym is)
 
 -- the labels of one line more
 pub labels_step : (lines : List RuleLine) (place : ℕ) (line : RuleLine) (rule : WrittenRule) (text : List ℕ) (old new : Option ℕ) → place < length lines
-    → line ≡ get_or lines place line → rule ≡ written line → old ≡ position_from (is_label_of text) 0 (table_of (take place lines))
+    → line ≡ get_or lines place line → rule ≡ rule_of_line line → old ≡ position_from (is_label_of text) 0 (table_of (take place lines))
     → new ≡ or_place old (cond (is_label_of text rule) (Some place) None) → new ≡ position_from (is_label_of text) 0 (table_of (take (place + 1) lines))
 labels_step lines place line said text old new here is same before after =
     let front = table_of (take place lines) in
-    let mapped : length front ≡ length (take place lines) = length-map (take place lines) written in
+    let mapped : length front ≡ length (take place lines) = length-map (take place lines) rule_of_line in
     let cut : length (take place lines) ≡ place = length-take-le place lines (omega arith) in
     let size : 0 + length front ≡ place = omega arith in
     after
     ∙ ap (λ (r : WrittenRule). or_place old (cond (is_label_of text r) (Some place) None)) same
-    ∙ ap (λ (o : Option ℕ). or_place o (cond (is_label_of text (written line)) (Some place) None)) before
-    ∙ ap (λ (n : ℕ). or_place (position_from (is_label_of text) 0 front) (cond (is_label_of text (written line)) (Some n) None)) (sym size)
-    ∙ sym (position_from_push (is_label_of text) 0 front (written line))
+    ∙ ap (λ (o : Option ℕ). or_place o (cond (is_label_of text (rule_of_line line)) (Some place) None)) before
+    ∙ ap (λ (n : ℕ). or_place (position_from (is_label_of text) 0 front) (cond (is_label_of text (rule_of_line line)) (Some n) None)) (sym size)
+    ∙ sym (position_from_push (is_label_of text) 0 front (rule_of_line line))
     ∙ ap (position_from (is_label_of text) 0) (sym (table_more lines place line here is))
 
 -- the labels of all lines, as many as there may be

@@ -14,7 +14,7 @@ use Rattle.uw_rules.specs.declared.grammar.LineKind.TheVariants as kinds
 use Rattle.uw_rules.specs.declared.lines.RuleLine.{RuleLine}
 use Rattle.uw_rules.specs.Grammar.{ArgumentShape, condition_of, kind_of_line}
 use Rattle.uw_rules.specs.Arguments.{pattern_in, second_half}
-use Rattle.uw_rules.specs.WrittenRules.{Phrase, WrittenTest, matching, holding, unparted, rule, parted, phrase_of, written, written_as}
+use Rattle.uw_rules.specs.WrittenRules.{Phrase, WrittenTest, matching, holding, unparted, rule, parted_rule, phrase_of, rule_of_line, written_as}
 use Rattle.uw_rules.specs.Rules.{pattern_of_rule, pattern_of_test}
 use Rattle.uw_rules.specs.CheckSteps.{IsShortText}
 use Rattle.uw_rules.specs.CompileSteps.{condition_shape}
@@ -44,7 +44,7 @@ parted_if true test action h k = (h, k)
 parted_if false test action h k = tt
 
 parted_short : (text : List ℕ) (test : List ℕ → WrittenTest) → length text < 2 ^ 32 → IsShortTest (test (before_first (λ byte. byte == 32) text))
-    → AreShort (parted text test)
+    → AreShort (parted_rule text test)
 parted_short text test h k =
     let action = after_first (λ byte. byte == 32) text in
     parted_if (list_any (λ byte. byte == 32) text) (test (before_first (λ byte. byte == 32) text)) (phrase_of (without_blanks action)) k
@@ -60,8 +60,8 @@ as_short (Some kinds.Label) text h = tt
 as_short None text h = tt
 
 -- the arguments of a rule of a short line are short
-pub written_short : (line : RuleLine) → length line.text < 2 ^ 32 → AreShort (written line)
-unfolding written
+pub written_short : (line : RuleLine) → length line.text < 2 ^ 32 → AreShort (rule_of_line line)
+unfolding rule_of_line
 written_short line h = as_short (kind_of_line line.form) line.text h
 
 -- ---- UTF-8
@@ -143,6 +143,6 @@ as_utf8 (Some kinds.Label) text h = tt
 as_utf8 None text h = tt
 
 -- the pattern of a rule of a line of UTF-8 is of UTF-8
-pub written_utf8 : (line : RuleLine) → IsUtf8 line.text → IfSome (pattern_of_rule (written line)) IsUtf8
-unfolding written
+pub written_utf8 : (line : RuleLine) → IsUtf8 line.text → IfSome (pattern_of_rule (rule_of_line line)) IsUtf8
+unfolding rule_of_line
 written_utf8 line h = as_utf8 (kind_of_line line.form) line.text h

@@ -12,29 +12,29 @@ use Rattle.uw_rules.specs.Grammar.{ArgumentShape, action_of, condition_of}
 use Rattle.uw_rules.specs.Arguments.{is_bad_argument, is_bad_template, places_of}
 use Rattle.uw_rules.specs.Patterns.{is_pattern}
 use Rattle.uw_rules.specs.WrittenRules.{WrittenTest, WrittenRule, always, matching, holding, unparted, label, rule}
-use Rattle.uw_rules.specs.Rules.{early_refusal, first_of_two, has_bad_pattern, has_bad_template, has_pattern, has_unknown_action, has_unknown_condition, is_bad_rule, is_bad_test, is_unknown_test, any_text_of_test, late_refusal, pattern_of_rule, pattern_refusal, refusal_of}
+use Rattle.uw_rules.specs.Rules.{early_refusal, first_of_two, has_bad_pattern, has_bad_template, has_pattern, has_unknown_action, has_unknown_condition, is_bad_rule, is_bad_test, is_unknown_test, any_text_of_test, late_refusal, pattern_of_rule, pattern_refusal, refusal_of_rule}
 use Rattle.uw_rules.specs.CompileSteps.{CanCompile, CanCompileCondition, CanCompileTest, HasGoodTemplates, IsPatternIn}
 use Rattle.uw_rules.specs.TableSteps.{GivesPatternIfAny, GivesRule, IsPatternRefusal}
 
 -- a rule that is refused before its pattern is looked at
 pub early : (names : List (List ℕ)) (labels : List ℕ → Option ℕ) (here : ℕ) (refused : Bool) (written : WrittenRule) (kind : RuleKind)
-    → early_refusal here written ≡ Some kind → refusal_of names labels here refused written ≡ Some kind
-unfolding refusal_of
+    → early_refusal here written ≡ Some kind → refusal_of_rule names labels here refused written ≡ Some kind
+unfolding refusal_of_rule
 early names labels here refused written kind h =
     ap (λ (first : Option RuleKind). first_of_two first (first_of_two (pattern_refusal refused written) (late_refusal names labels here written))) h
 
 -- a rule that is refused for its pattern
 pub by_pattern : (names : List (List ℕ)) (labels : List ℕ → Option ℕ) (here : ℕ) (refused : Bool) (written : WrittenRule) (kind : RuleKind)
-    → early_refusal here written ≡ None → pattern_refusal refused written ≡ Some kind → refusal_of names labels here refused written ≡ Some kind
-unfolding refusal_of
+    → early_refusal here written ≡ None → pattern_refusal refused written ≡ Some kind → refusal_of_rule names labels here refused written ≡ Some kind
+unfolding refusal_of_rule
 by_pattern names labels here refused written kind none h =
     ap (λ (first : Option RuleKind). first_of_two first (first_of_two (pattern_refusal refused written) (late_refusal names labels here written))) none
     ∙ ap (λ (first : Option RuleKind). first_of_two first (late_refusal names labels here written)) h
 
 -- a rule that is refused for neither is refused for what comes behind its pattern, if it is
 pub late : (names : List (List ℕ)) (labels : List ℕ → Option ℕ) (here : ℕ) (refused : Bool) (written : WrittenRule)
-    → early_refusal here written ≡ None → pattern_refusal refused written ≡ None → refusal_of names labels here refused written ≡ late_refusal names labels here written
-unfolding refusal_of
+    → early_refusal here written ≡ None → pattern_refusal refused written ≡ None → refusal_of_rule names labels here refused written ≡ late_refusal names labels here written
+unfolding refusal_of_rule
 late names labels here refused written none no_pattern =
     ap (λ (first : Option RuleKind). first_of_two first (first_of_two (pattern_refusal refused written) (late_refusal names labels here written))) none
     ∙ ap (λ (first : Option RuleKind). first_of_two first (late_refusal names labels here written)) no_pattern
@@ -91,11 +91,11 @@ module _ (written : WrittenRule) where
 
 -- ---- what a rule that is not refused has
 
-both_false : (a b : Bool) → (a || b) ≡ false → (a ≡ false) × (b ≡ false)
+pub both_false : (a b : Bool) → (a || b) ≡ false → (a ≡ false) × (b ≡ false)
 both_false true b h = absurd (cc)
 both_false false b h = (refl, h)
 
-passed : (b : Bool) (kind : RuleKind) (rest : Option RuleKind) → cond b (Some kind) rest ≡ None → (b ≡ false) × (rest ≡ None)
+pub passed : (b : Bool) (kind : RuleKind) (rest : Option RuleKind) → cond b (Some kind) rest ≡ None → (b ≡ false) × (rest ≡ None)
 passed true kind rest h = absurd (cc)
 passed false kind rest h = (refl, h)
 

@@ -10,8 +10,8 @@ use Rattle.uw_rules.specs.declared.kinds.Refusal.{Refusal}
 use Rattle.uw_rules.specs.declared.kinds.Refusal.TheVariants as refusals
 use Rattle.uw_rules.specs.declared.lines.RuleLine.{RuleLine}
 use Rattle.uw_rules.specs.declared.compiled.Rule.{Rule}
-use Rattle.uw_rules.specs.WrittenRules.{WrittenRule, written}
-use Rattle.uw_rules.specs.Rules.{place_of_label, refusal_at, refusal_of, table_of}
+use Rattle.uw_rules.specs.WrittenRules.{WrittenRule, rule_of_line}
+use Rattle.uw_rules.specs.Rules.{place_of_label, rule_refusal_at, refusal_of_rule, table_of}
 use Rattle.uw_rules.specs.Compiled.{IsRuleOf}
 use Rattle.uw_rules.specs.Tables.{AreRulesOf, NoneRefusedBefore, ReadsRules}
 use Rattle.uw_rules.specs.TableSteps.{GivesRule, error_of}
@@ -27,10 +27,10 @@ rules_push names labels (r ∷ rs) (w ∷ ws) one last h k = (h.0, rules_push na
 
 -- the refusal of the rule of a line
 refusal_here : (names : List (List ℕ)) (lines : List RuleLine) (here : ℕ) (line : RuleLine) (refused : Bool) → slice_get lines here ≡ Some line
-    → refusal_at names lines here refused ≡ refusal_of names (place_of_label lines) here refused (written line)
-unfolding refusal_at
+    → rule_refusal_at names lines here refused ≡ refusal_of_rule names (place_of_label lines) here refused (rule_of_line line)
+unfolding rule_refusal_at
 refusal_here names lines here line refused is =
-    ap (λ (l : Option RuleLine). option_and_then (refusal_of names (place_of_label lines) here refused) (option_map written l)) is
+    ap (λ (l : Option RuleLine). option_and_then (refusal_of_rule names (place_of_label lines) here refused) (option_map rule_of_line l)) is
 
 -- what a step gives under the places of labels that the code has, it gives under those of the table
 same_labels : (names : List (List ℕ)) (found : List ℕ → Option ℕ) (lines : List RuleLine) (here before after : ℕ) (said : WrittenRule) (result : Result Rule Refusal)
@@ -40,7 +40,7 @@ same_labels names found lines here before after said result same h =
     subst (λ (labels : List ℕ → Option ℕ). GivesRule names labels here before after said result) (fun_ext same) h
 
 -- no line up to this one is refused
-earlier_more : (names : List (List ℕ)) (lines : List RuleLine) (here : ℕ) → NoneRefusedBefore names lines here → refusal_at names lines here false ≡ None
+earlier_more : (names : List (List ℕ)) (lines : List RuleLine) (here : ℕ) → NoneRefusedBefore names lines here → rule_refusal_at names lines here false ≡ None
     → NoneRefusedBefore names lines (here + 1)
 earlier_more names lines here h k = below_more _ here h k
 
@@ -55,10 +55,10 @@ pub record IsReadUpTo (names : List (List ℕ)) (lines : List RuleLine) (here : 
 -- a rule that is taken
 pub taken : (names : List (List ℕ)) (found : List ℕ → Option ℕ) (lines : List RuleLine) (here before after : ℕ) (line : RuleLine) (said : WrittenRule)
     (rules new : List Rule) (one : Rule) → ((text : List ℕ) → found text ≡ place_of_label lines text) → here < length lines → line ≡ get_or lines here line
-    → said ≡ written line → GivesRule names found here before after said (Ok one) → IsReadUpTo names lines here rules → new ≡ rules ++ one ∷ []
+    → said ≡ rule_of_line line → GivesRule names found here before after said (Ok one) → IsReadUpTo names lines here rules → new ≡ rules ++ one ∷ []
     → IsReadUpTo names lines (here + 1) new
 taken names found lines here before after line said rules new one same inside is says gives so_far pushed =
-    let given : GivesRule names (place_of_label lines) here before after (written line) (Ok one) =
+    let given : GivesRule names (place_of_label lines) here before after (rule_of_line line) (Ok one) =
     subst (λ (w : WrittenRule). GivesRule names (place_of_label lines) here before after w (Ok one)) says
     (same_labels names found lines here before after said (Ok one) same gives) in
     let at : slice_get lines here ≡ Some line = slice_get_read lines (length lines) here line refl inside is in
@@ -66,17 +66,17 @@ taken names found lines here before after line said rules new one same inside is
       earlier = earlier_more names lines here so_far.earlier (refusal_here names lines here line false at ∙ given.0);
       rules_read =
           rw (pushed, table_more lines here line inside is)
-          (rules_push names (place_of_label lines) rules (table_of (take here lines)) one (written line) so_far.rules_read given.1);
+          (rules_push names (place_of_label lines) rules (table_of (take here lines)) one (rule_of_line line) so_far.rules_read given.1);
     }
 
 -- a rule that is refused
 pub refused : (names : List (List ℕ)) (found : List ℕ → Option ℕ) (lines : List RuleLine) (here first before after : ℕ) (line : RuleLine) (said : WrittenRule)
-    (refusal : Refusal) → ((text : List ℕ) → found text ≡ place_of_label lines text) → here < length lines → line ≡ get_or lines here line → said ≡ written line
+    (refusal : Refusal) → ((text : List ℕ) → found text ≡ place_of_label lines text) → here < length lines → line ≡ get_or lines here line → said ≡ rule_of_line line
     → first ≤ before → GivesRule names found here before after said (Err refusal) → NoneRefusedBefore names lines here
     → ReadsRules names lines first after (Err (error_of line.line refusal))
 refused names found lines here first before after line said refusals.Memory same inside is says later gives earlier = tt
 refused names found lines here first before after line said (refusals.Refused kind) same inside is says later gives earlier =
-    let given : GivesRule names (place_of_label lines) here before after (written line) (Err (refusals.Refused kind)) =
+    let given : GivesRule names (place_of_label lines) here before after (rule_of_line line) (Err (refusals.Refused kind)) =
     subst (λ (w : WrittenRule). GivesRule names (place_of_label lines) here before after w (Err (refusals.Refused kind))) says
     (same_labels names found lines here before after said (Err (refusals.Refused kind)) same gives) in
     let at : slice_get lines here ≡ Some line = slice_get_read lines (length lines) here line refl inside is in

@@ -9,7 +9,7 @@ use Rattle.uw_rules.specs.declared.kinds.RuleKind.TheVariants as refusals
 use Rattle.uw_rules.specs.Grammar.{ArgumentShape, action_of, condition_of}
 use Rattle.uw_rules.specs.Arguments.{Place, is_bad_argument, is_bad_template, is_label, is_missed_label, is_unknown_name, pattern_in, places_of}
 use Rattle.uw_rules.specs.Patterns.{is_pattern}
-use Rattle.uw_rules.specs.WrittenRules.{WrittenTest, WrittenRule, always, matching, holding, unparted, label, rule, written}
+use Rattle.uw_rules.specs.WrittenRules.{WrittenTest, WrittenRule, always, matching, holding, unparted, label, rule, rule_of_line}
 
 -- ---- what a rule's texts say
 
@@ -134,15 +134,15 @@ first_of_two (Some kind) other = Some kind
 first_of_two None other = other
 
 -- why a rule is refused at its place in the table: for what comes before its pattern, for its pattern, or for what comes behind it
-unfoldable pub refusal_of : List (List ℕ) → (List ℕ → Option ℕ) → ℕ → Bool → WrittenRule → Option RuleKind
-refusal_of names labels here refused written =
+unfoldable pub refusal_of_rule : List (List ℕ) → (List ℕ → Option ℕ) → ℕ → Bool → WrittenRule → Option RuleKind
+refusal_of_rule names labels here refused written =
     first_of_two (early_refusal here written) (first_of_two (pattern_refusal refused written) (late_refusal names labels here written))
 
 -- ---- tables
 
 -- the rules of a table, as they are written
 abbrev pub table_of : List RuleLine → List WrittenRule
-table_of lines = map written lines
+table_of lines = map rule_of_line lines
 
 -- the rule is the label of this text
 abbrev pub is_label_of : List ℕ → WrittenRule → Bool
@@ -155,5 +155,5 @@ unfoldable pub place_of_label : List RuleLine → List ℕ → Option ℕ
 place_of_label lines text = position_from (is_label_of text) 0 (table_of (take 4096 lines))
 
 -- why the rule of a number is refused, if there is one and it is
-unfoldable pub refusal_at : List (List ℕ) → List RuleLine → ℕ → Bool → Option RuleKind
-refusal_at names lines here refused = option_and_then (refusal_of names (place_of_label lines) here refused) (option_map written (slice_get lines here))
+unfoldable pub rule_refusal_at : List (List ℕ) → List RuleLine → ℕ → Bool → Option RuleKind
+rule_refusal_at names lines here refused = option_and_then (refusal_of_rule names (place_of_label lines) here refused) (option_map rule_of_line (slice_get lines here))

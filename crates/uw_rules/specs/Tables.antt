@@ -12,7 +12,7 @@ use Rattle.uw_rules.specs.declared.compiled.Rule.{Rule}
 use Rattle.uw_rules.specs.declared.compiled.RuleTable.{RuleTable}
 use Rattle.uw_rules.specs.Grammar.{kind_of_line}
 use Rattle.uw_rules.specs.WrittenRules.{WrittenRule}
-use Rattle.uw_rules.specs.Rules.{place_of_label, refusal_at, table_of}
+use Rattle.uw_rules.specs.Rules.{place_of_label, rule_refusal_at, table_of}
 use Rattle.uw_rules.specs.Compiled.{IsRuleOf, rules_of}
 
 -- a line of the request table: an option of it, and a text of UTF-8 that is shorter than 2^32 bytes
@@ -34,12 +34,12 @@ AreRulesOf names labels _ _ = ⊥
 
 -- no line before this one is refused
 abbrev pub NoneRefusedBefore : List (List ℕ) → List RuleLine → ℕ → Type 0
-NoneRefusedBefore names lines here = (earlier : ℕ) → earlier < here → refusal_at names lines earlier false ≡ None
+NoneRefusedBefore names lines here = (earlier : ℕ) → earlier < here → rule_refusal_at names lines earlier false ≡ None
 
 -- the rule is refused for its text; or for its pattern, which the maker of patterns refused and counted
 abbrev pub IsRefusedFor : List (List ℕ) → List RuleLine → ℕ → ℕ → ℕ → RuleKind → Type 0
 IsRefusedFor names lines before after here kind =
-    (refusal_at names lines here false ≡ Some kind) ⊎ ((refusal_at names lines here true ≡ Some kind) × (kind ≡ refusals.PatternRefused) × Rose before after)
+    (rule_refusal_at names lines here false ≡ Some kind) ⊎ ((rule_refusal_at names lines here true ≡ Some kind) × (kind ≡ refusals.PatternRefused) × Rose before after)
 
 -- the line of this number is the first that is refused, and it is refused for this kind
 pub record IsFirstRefused (names : List (List ℕ)) (lines : List RuleLine) (before after line : ℕ) (kind : RuleKind) : Type 0 where

@@ -33,20 +33,20 @@ pub data WrittenRule : Type 0 where
   rule : WrittenTest → Phrase → WrittenRule
 
 -- the first space (32) parts a test from its action, which has no blanks in front
-abbrev pub parted : List ℕ → (List ℕ → WrittenTest) → WrittenRule
-parted text test =
+abbrev pub parted_rule : List ℕ → (List ℕ → WrittenTest) → WrittenRule
+parted_rule text test =
     if list_any (λ byte. byte == 32) text
     then rule (test (before_first (λ byte. byte == 32) text)) (phrase_of (without_blanks (after_first (λ byte. byte == 32) text)))
     else unparted
 
 -- a rule by the kind of its line
 abbrev pub written_as : Option LineKind → List ℕ → WrittenRule
-written_as (Some (kinds.Pattern subject)) text = parted text (λ pattern. matching subject pattern)
+written_as (Some (kinds.Pattern subject)) text = parted_rule text (λ pattern. matching subject pattern)
 written_as (Some kinds.Always) text = rule always (phrase_of text)
-written_as (Some (kinds.Condition negated)) text = parted text (λ condition. holding negated (phrase_of condition))
+written_as (Some (kinds.Condition negated)) text = parted_rule text (λ condition. holding negated (phrase_of condition))
 written_as (Some kinds.Label) text = label text
 written_as None text = unparted
 
 -- the rule of a line
-unfoldable pub written : RuleLine → WrittenRule
-written line = written_as (kind_of_line line.form) line.text
+unfoldable pub rule_of_line : RuleLine → WrittenRule
+rule_of_line line = written_as (kind_of_line line.form) line.text

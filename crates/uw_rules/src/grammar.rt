@@ -15,6 +15,23 @@ pub enum Subject {
     RemoteAddr,
 }
 
+impl Subject {
+    ghost use Rattle.uw_rules.specs.Grammar.{subject_variable};
+
+    /// The name of the variable.
+    pub fn variable(self) -> &'static [u8]
+        ensures { result.now ≡ subject_variable self }
+    {
+        match self {
+            Subject::PathInfo => b"PATH_INFO",
+            Subject::HttpHost => b"HTTP_HOST",
+            Subject::RequestUri => b"REQUEST_URI",
+            Subject::QueryString => b"QUERY_STRING",
+            Subject::RemoteAddr => b"REMOTE_ADDR",
+        }
+    }
+}
+
 /// What a line of an option is.
 #[derive(Clone, Copy, Debug, PartialEq, Eq)]
 pub enum LineKind {

@@ -9,6 +9,7 @@ mod grammar;
 mod judging;
 mod kinds;
 mod labels;
+pub mod laws;
 mod lines;
 pub mod patterns;
 mod reading;
@@ -25,3 +26,5 @@ pub use regex_patterns::RegexPatterns;
 
 #[cfg(test)]
 mod pattern_tests;
+#[cfg(test)]
+mod tests;

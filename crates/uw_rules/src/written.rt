@@ -1,6 +1,6 @@
 // A rule as it is written: a line, parted into its test and its action.
 ghost use Rattle.std.specs.Prelude.{◌≡◌, Some};
-ghost use Rattle.uw_rules.specs.WrittenRules.{phrase_of, written, written_as};
+ghost use Rattle.uw_rules.specs.WrittenRules.{phrase_of, rule_of_line, written_as};
 ghost use Rattle.uw_rules.specs.declared.grammar.LineKind.TheVariants as kinds;
 ghost use Rattle.uw_rules.specs.WrittenSteps.{parted_seen, phrase_seen, written_seen};
 
@@ -106,9 +106,9 @@ fn written_as(kind: Option<LineKind>, text: &[u8]) -> WrittenRule<'_>
 }
 
 /// The rule of a line.
-#[tactic(auto, unfolding(crate::specs::WrittenRules::written))]
+#[tactic(auto, unfolding(crate::specs::WrittenRules::rule_of_line))]
 pub fn written(line: &RuleLine) -> WrittenRule<'_>
-    ensures { written_seen result ≡ written line.now }
+    ensures { written_seen result ≡ rule_of_line line.now }
 {
     written_as(kind_of_line(line.form.as_slice()), line.text.as_slice())
 }
