@@ -7,7 +7,7 @@ use Rattle.std.specs.Prelude.{Bool, true, map, Option, if◌then◌else◌}
 use Rattle.uw_model.specs.declared.conf.CacheConf.{CacheConf}
 use Rattle.uw_rules.specs.declared.lines.RuleLine.{RuleLine}
 use Rattle.uw_conf.specs.Configuration.{fault_of_reading, lesser_fault, said_by, unless_fault}
-use Rattle.uw_conf.specs.Routes.{first_refused_rule, rule_in, rule_of_line, rules_behind, rules_inside}
+use Rattle.uw_conf.specs.Routes.{first_refused_rule, rule_in, line_of_rule, rules_behind, rules_inside}
 use Rattle.uw_conf.specs.declared.conf.Options.{Options}
 use Rattle.uw_conf.specs.declared.conf.ConfFault.{ConfFault}
 use Rattle.uw_conf.specs.declared.conf.ConfKind.{ConfKind}
@@ -71,8 +71,8 @@ none_either_way false rules e = refl
 
 rule_outside : (inside : Option Bool) (number : ℕ) (line : List ℕ) → inside ≡ Some false → rule_in inside number line ≡ []
 rule_outside inside number line outside =
-    none_either_way (utf8_valid_len line == length line) (rules_inside inside (rule_of_line number (line_of (trimmed line))))
-    (ap (λ (x : Option Bool). rules_inside x (rule_of_line number (line_of (trimmed line)))) outside)
+    none_either_way (utf8_valid_len line == length line) (rules_inside inside (line_of_rule number (line_of (trimmed line))))
+    (ap (λ (x : Option Bool). rules_inside x (line_of_rule number (line_of (trimmed line)))) outside)
 
 rules_passed : (r : ReadSoFar) (number : ℕ) (others back : List (List ℕ)) → r.inside ≡ Some false → AllByRecursion IsPlainLine others
     → rules_behind r number (others ++ back) ≡ rules_behind r (number + length others) back

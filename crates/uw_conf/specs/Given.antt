@@ -5,7 +5,7 @@ use Rattle.uw_outside.specs.Faults.{Rose}
 use Rattle.uw_rules.specs.declared.kinds.RuleKind.TheVariants as refusals
 use Rattle.uw_rules.specs.declared.lines.RuleLine.{RuleLine}
 use Rattle.uw_rules.specs.Compiled.{rules_of}
-use Rattle.uw_rules.specs.Rules.{place_of_label, table_of, refusal_at as rule_refusal}
+use Rattle.uw_rules.specs.Rules.{place_of_label, table_of, rule_refusal_at}
 use Rattle.uw_rules.specs.Tables.{AreRulesOf}
 use Rattle.uw_conf.specs.declared.conf.Conf.{Conf}
 use Rattle.uw_conf.specs.declared.conf.ConfFault.{ConfFault}
@@ -37,7 +37,7 @@ HasRoutesOf lines conf = AreRulesOf (cache_names_of lines) (place_of_label (rule
 pub record IsPatternRefused (lines : List (List ℕ)) (fault : ConfFault) : Type 0 where
   pub here : ℕ
   pub line : IsSomeAnd (slice_get (rule_lines_of lines) here) (λ (rule : RuleLine). rule.line ≡ fault.line)
-  pub refused : rule_refusal (cache_names_of lines) (rule_lines_of lines) here true ≡ Some refusals.PatternRefused
+  pub refused : rule_refusal_at (cache_names_of lines) (rule_lines_of lines) here true ≡ Some refusals.PatternRefused
   pub kind : fault.kind ≡ kinds.Rule refusals.PatternRefused
   pub least : IfErr (said_by lines) (λ (other : ConfFault). fault.line ≤ other.line)
 
