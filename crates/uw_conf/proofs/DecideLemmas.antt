@@ -14,14 +14,15 @@ use Rattle.uw_conf.specs.declared.conf.ConfError.{ConfError}
 use Rattle.uw_conf.specs.declared.conf.ConfError.TheVariants as conf_errors
 use Rattle.std.specs.Str.Lines.{lines}
 use Rattle.std.proofs.lemmas.Bool.{cond-false}
-use Rattle.uw_rules.specs.Rules.{refusal_at as rule_refusal}
+use Rattle.uw_rules.specs.Rules.{rule_refusal_at}
 use Rattle.uw_rules.specs.Tables.{IsFirstRefused, NoneRefusedBefore, ReadsRules}
 use Rattle.uw_conf.specs.declared.conf.ConfFault.{ConfFault}
 use Rattle.uw_conf.specs.declared.conf.ConfKind.TheVariants as kinds
 use Rattle.uw_conf.specs.declared.conf.Options.{Options}
 use Rattle.uw_conf.specs.declared.reading.Walk.{Walk}
 use Rattle.uw_conf.specs.Configuration.{configuration_of, lesser_fault, most_text_bytes, said_by, unless_fault}
-use Rattle.uw_conf.specs.Given.{IsPatternRefused, ReadsConf, ReadsLines}
+use Rattle.uw_conf.specs.Given.{IsPatternRefused, ReadsConf}
+use Rattle.uw_conf.specs.DecidingSteps.{ReadsLines}
 use Rattle.uw_conf.specs.Reading.{ReadSoFar, blank_reading, reading_after}
 use Rattle.uw_conf.specs.ReadingSteps.{WalksOver}
 use Rattle.uw_conf.specs.Routes.{cache_names_of, first_refused_rule, rule_lines_of, rule_refused_at}
@@ -32,16 +33,16 @@ use Rattle.uw_conf.proofs.RouteLemmas.{RisesFrom, rules_rise, rules_tell}
 module _ (names : List (List ℕ)) (all : List RuleLine) where
   -- no rule from a place on is refused, so many
   abbrev NoneFrom : ℕ → ℕ → Type 0
-  NoneFrom here count = (k : ℕ) → k < count → rule_refusal names all (here + k) false ≡ None
+  NoneFrom here count = (k : ℕ) → k < count → rule_refusal_at names all (here + k) false ≡ None
 
-  at_first : (here : ℕ) (found : Option RuleKind) → rule_refusal names all (here + 0) false ≡ found → rule_refusal names all here false ≡ found
-  at_first here found e = let same : here + 0 ≡ here = omega arith in subst (λ (n : ℕ). rule_refusal names all n false ≡ found) same e
+  at_first : (here : ℕ) (found : Option RuleKind) → rule_refusal_at names all (here + 0) false ≡ found → rule_refusal_at names all here false ≡ found
+  at_first here found e = let same : here + 0 ≡ here = omega arith in subst (λ (n : ℕ). rule_refusal_at names all n false ≡ found) same e
 
-  behind : (here k : ℕ) (found : Option RuleKind) → rule_refusal names all (here + suc k) false ≡ found → rule_refusal names all (here + 1 + k) false ≡ found
-  behind here k found e = let same : here + suc k ≡ here + 1 + k = omega arith in subst (λ (n : ℕ). rule_refusal names all n false ≡ found) same e
+  behind : (here k : ℕ) (found : Option RuleKind) → rule_refusal_at names all (here + suc k) false ≡ found → rule_refusal_at names all (here + 1 + k) false ≡ found
+  behind here k found e = let same : here + suc k ≡ here + 1 + k = omega arith in subst (λ (n : ℕ). rule_refusal_at names all n false ≡ found) same e
 
   -- a rule that is not refused leaves the question to those behind it
-  passed : (here : ℕ) (rule : RuleLine) (rest : List RuleLine) → rule_refusal names all here false ≡ None
+  passed : (here : ℕ) (rule : RuleLine) (rest : List RuleLine) → rule_refusal_at names all here false ≡ None
       → first_refused_rule names all here (rule ∷ rest) ≡ first_refused_rule names all (here + 1) rest
   passed here rule rest none = ap (λ (x : Option RuleKind). option_or (option_map (rule_refused_at rule.line) x) (first_refused_rule names all (here + 1) rest)) none
 
@@ -52,7 +53,7 @@ module _ (names : List (List ℕ)) (all : List RuleLine) where
       ∙ none_refused (here + 1) rest (λ k below. behind here k None (none (suc k) (omega arith)))
 
   refused_there : (here k line : ℕ) (kind : RuleKind) (rest : List RuleLine) → IsSomeAnd (slice_get rest k) (λ (rule : RuleLine). rule.line ≡ line) → NoneFrom here k
-      → rule_refusal names all (here + k) false ≡ Some kind → first_refused_rule names all here rest ≡ Some (rule_refused_at line kind)
+      → rule_refusal_at names all (here + k) false ≡ Some kind → first_refused_rule names all here rest ≡ Some (rule_refused_at line kind)
   refused_there here zero line kind [] at none refused = absurd at
   refused_there here (suc k) line kind [] at none refused = absurd at
   refused_there here zero line kind (rule ∷ rest) at none refused =
@@ -80,8 +81,8 @@ module _ (names : List (List ℕ)) (all : List RuleLine) where
 abbrev first_rule : List (List ℕ) → Option ConfFault
 first_rule lines = first_refused_rule (cache_names_of lines) (rule_lines_of lines) 0 (rule_lines_of lines)
 
-from_start : (names : List (List ℕ)) (all : List RuleLine) (count : ℕ) → NoneRefusedBefore names all count → (k : ℕ) → k < count → rule_refusal names all (0 + k) false ≡ None
-from_start names all count none k below = let same : k ≡ 0 + k = omega arith in subst (λ (n : ℕ). rule_refusal names all n false ≡ None) same (none k below)
+from_start : (names : List (List ℕ)) (all : List RuleLine) (count : ℕ) → NoneRefusedBefore names all count → (k : ℕ) → k < count → rule_refusal_at names all (0 + k) false ≡ None
+from_start names all count none k below = let same : k ≡ 0 + k = omega arith in subst (λ (n : ℕ). rule_refusal_at names all n false ≡ None) same (none k below)
 
 said_walk : (lines : List (List ℕ)) (walk : Walk) → WalksOver lines walk → said_by lines ≡ unless_fault (lesser_fault walk.fault (first_rule lines)) walk.progress.options
 said_walk lines walk over =
@@ -161,8 +162,8 @@ said_refused lines walk before after line kind result over first least =
     (refused_from (cache_names_of lines) (rule_lines_of lines) 0 1 first.here line (rule_lines_of lines) (rules_rise blank_reading 1 lines) first.number (from_start (cache_names_of lines) (rule_lines_of lines) first.here first.earlier)) least))
     first.cause
   where
-    at_here : (found : Option RuleKind) → rule_refusal (cache_names_of lines) (rule_lines_of lines) first.here false ≡ found → rule_refusal (cache_names_of lines) (rule_lines_of lines) (0 + first.here) false ≡ found
-    at_here found e = let same : first.here ≡ 0 + first.here = omega arith in subst (λ (n : ℕ). rule_refusal (cache_names_of lines) (rule_lines_of lines) n false ≡ found) same e
+    at_here : (found : Option RuleKind) → rule_refusal_at (cache_names_of lines) (rule_lines_of lines) first.here false ≡ found → rule_refusal_at (cache_names_of lines) (rule_lines_of lines) (0 + first.here) false ≡ found
+    at_here found e = let same : first.here ≡ 0 + first.here = omega arith in subst (λ (n : ℕ). rule_refusal_at (cache_names_of lines) (rule_lines_of lines) n false ≡ found) same e
 
 -- ---- the reading of a text
 

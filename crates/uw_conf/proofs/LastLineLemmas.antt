@@ -15,7 +15,8 @@ use Rattle.uw_conf.specs.declared.options.OptionKind.TheVariants as of
 use Rattle.uw_conf.specs.Lines.{Line, nothing, section, option, broken, line_of}
 use Rattle.uw_base.specs.Texts.{trimmed}
 use Rattle.uw_conf.specs.Caches.{number_in, with_cache}
-use Rattle.uw_conf.specs.Reading.{ReadSoFar, blank_reading, option_kind, set_number, set_caches, set_option, with_option, with_conf, with_setting, with_broken_line, with_line, read_line, at_line, read_lines, conf_read}
+use Rattle.uw_conf.specs.Reading.{ReadSoFar, blank_reading, option_kind, set_number, set_caches, set_option, with_option, with_conf, with_setting, with_broken_line, with_line, read_line, at_line, read_lines}
+use Rattle.uw_conf.proofs.RefusalLemmas.{conf_read}
 use Rattle.uw_conf.specs.Configuration.{configuration_of}
 use Rattle.uw_conf.proofs.RefusalLemmas.{own_says}
 use Rattle.uw_conf.specs.Laws.{Setting, is_inside_behind, is_kind, last_value, number_or, setting_in, settings_from, settings_of, values_of}

@@ -8,7 +8,8 @@ use Rattle.uw_conf.specs.declared.conf.ConfFault.{ConfFault}
 use Rattle.uw_conf.specs.declared.conf.ConfKind.{ConfKind}
 use Rattle.uw_conf.specs.Lines.{Line, nothing, section, option, broken, line_of}
 use Rattle.uw_base.specs.Texts.{trimmed}
-use Rattle.uw_conf.specs.Reading.{ReadSoFar, blank_conf, with_option, with_conf, with_setting, with_broken_line, with_line, read_line, at_line, read_lines, conf_read, blank_reading, unless_refused}
+use Rattle.uw_conf.specs.Reading.{ReadSoFar, blank_conf, with_option, with_conf, with_setting, with_broken_line, with_line, read_line, at_line, read_lines, blank_reading, unless_refused}
+use Rattle.uw_conf.proofs.RefusalLemmas.{conf_read}
 use Rattle.uw_conf.specs.Configuration.{configuration_of}
 use Rattle.uw_conf.proofs.RefusalLemmas.{own_says}
 

@@ -8,12 +8,17 @@ use Rattle.std.specs.Str.Lines.{lines}
 use Rattle.uw_conf.specs.declared.conf.Options.{Options}
 use Rattle.uw_conf.specs.declared.conf.ConfFault.{ConfFault}
 use Rattle.uw_conf.specs.declared.conf.ConfKind.{ConfKind}
-use Rattle.uw_conf.specs.Reading.{ReadSoFar, blank_reading, read_line, at_line, read_lines, conf_read, refused_at}
+use Rattle.uw_conf.specs.Reading.{ReadSoFar, blank_reading, read_line, at_line, read_lines, refused_at}
 use Rattle.uw_conf.specs.Configuration.{configuration_of, fault_of_reading, first_refused_option, least_refused, lesser_fault, most_text_bytes, unless_fault}
 use Rattle.uw_conf.specs.Routes.{cache_names_of, first_refused_rule, rule_lines_of}
 use Rattle.uw_conf.proofs.RouteLemmas.{TellsOf, rules_rise, rules_tell}
 use Rattle.uw_conf.specs.Reading.{reading_after, unless_refused}
 use Rattle.uw_conf.specs.Laws.{IsLeastRefusal, own_refusal_at, refusal, refusal_at, refusal_behind, refusal_from, rule_refusal_on}
+
+-- what a reading has read, without where it stands
+abbrev pub conf_read : Result ReadSoFar ConfFault → Result Options ConfFault
+conf_read (Err fault) = Err fault
+conf_read (Ok r) = Ok r.conf
 
 -- the place of the fault is the least at which a line is refused
 record IsLeastFrom (r : ReadSoFar) (number : ℕ) (all : List (List ℕ)) (fault : ConfFault) : Type 0 where

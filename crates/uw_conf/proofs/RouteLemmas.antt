@@ -10,13 +10,13 @@ use Rattle.uw_base.specs.Texts.{trimmed}
 use Rattle.uw_rules.specs.declared.lines.RuleLine.{RuleLine}
 use Rattle.uw_rules.specs.declared.kinds.RuleKind.{RuleKind}
 use Rattle.uw_rules.specs.Grammar.{kind_of_line}
-use Rattle.uw_rules.specs.Rules.{refusal_at as rule_refusal}
+use Rattle.uw_rules.specs.Rules.{rule_refusal_at}
 use Rattle.uw_conf.specs.declared.conf.ConfFault.{ConfFault}
 use Rattle.uw_conf.specs.declared.conf.ConfKind.{ConfKind}
 use Rattle.uw_conf.specs.declared.conf.ConfKind.TheVariants as kinds
 use Rattle.uw_conf.specs.Lines.{Line, nothing, section, option, broken, line_of}
 use Rattle.uw_conf.specs.Reading.{ReadSoFar, read_line, unless_refused}
-use Rattle.uw_conf.specs.Routes.{first_refused_rule, rule_in, rule_of_line, rule_refused_at, rules_behind, rules_inside}
+use Rattle.uw_conf.specs.Routes.{first_refused_rule, rule_in, line_of_rule, rule_refused_at, rules_behind, rules_inside}
 
 -- ---- the lines rise
 
@@ -44,7 +44,7 @@ one_if : (number : ℕ) (b : Bool) (rules : List RuleLine) → IsOneAt number ru
 one_if number true rules h = h
 one_if number false rules h = tt
 
-one_of_line : (number : ℕ) (line : Line) → IsOneAt number (rule_of_line number line)
+one_of_line : (number : ℕ) (line : Line) → IsOneAt number (line_of_rule number line)
 one_of_line number nothing = tt
 one_of_line number (section name) = tt
 one_of_line number (option name value) = one_if number (is_some (kind_of_line name)) _ refl
@@ -81,7 +81,7 @@ stands_at number rule = rule.line == number
 module _ (names : List (List ℕ)) (all : List RuleLine) where
   -- why the rule of a line is refused, among those from a place on
   abbrev pub refusal_among : ℕ → List RuleLine → ℕ → Option ConfKind
-  refusal_among here rest number = option_map kinds.Rule (option_and_then (λ place. rule_refusal names all place false) (position_from (stands_at number) here rest))
+  refusal_among here rest number = option_map kinds.Rule (option_and_then (λ place. rule_refusal_at names all place false) (position_from (stands_at number) here rest))
 
   -- no rule stands before the first
   absent : (here low number : ℕ) (rest : List RuleLine) → RisesFrom low rest → number < low → position_from (stands_at number) here rest ≡ None
@@ -92,11 +92,11 @@ module _ (names : List (List ℕ)) (all : List RuleLine) where
 
   none_before : (here low number : ℕ) (rest : List RuleLine) → RisesFrom low rest → number < low → refusal_among here rest number ≡ None
   none_before here low number rest h below =
-      ap (λ place. option_map kinds.Rule (option_and_then (λ place. rule_refusal names all place false) place)) (absent here low number rest h below)
+      ap (λ place. option_map kinds.Rule (option_and_then (λ place. rule_refusal_at names all place false) place)) (absent here low number rest h below)
 
   -- the first rule stands at its line
   at_first : (here number : ℕ) (rule : RuleLine) (rest : List RuleLine) → rule.line ≡ number
-      → refusal_among here (rule ∷ rest) number ≡ option_map kinds.Rule (rule_refusal names all here false)
+      → refusal_among here (rule ∷ rest) number ≡ option_map kinds.Rule (rule_refusal_at names all here false)
   at_first here number rule rest same = rw (eq-eqb rule.line number same) refl
 
   -- and at no other
@@ -107,7 +107,7 @@ module _ (names : List (List ℕ)) (all : List RuleLine) where
   abbrev pub Tells : ℕ → ℕ → List RuleLine → Option ConfFault → Type 0
   Tells here low rest found = TellsOf (refusal_among here rest) found × IfSome found (λ (fault : ConfFault). low ≤ fault.line)
 
-  tells_first : (here low : ℕ) (rule : RuleLine) (rest : List RuleLine) (kind : Option RuleKind) → rule_refusal names all here false ≡ kind → RisesFrom low (rule ∷ rest)
+  tells_first : (here low : ℕ) (rule : RuleLine) (rest : List RuleLine) (kind : Option RuleKind) → rule_refusal_at names all here false ≡ kind → RisesFrom low (rule ∷ rest)
       → (found : Option ConfFault) → Tells (here + 1) (rule.line + 1) rest found → Tells here low (rule ∷ rest) (option_or (option_map (rule_refused_at rule.line) kind) found)
   tells_first here low rule rest (Some kind) e h found later =
       let first = h.0 in (
@@ -138,4 +138,4 @@ module _ (names : List (List ℕ)) (all : List RuleLine) where
   pub rules_tell : (here low : ℕ) (rest : List RuleLine) → RisesFrom low rest → Tells here low rest (first_refused_rule names all here rest)
   rules_tell here low [] h = (λ number. refl, tt)
   rules_tell here low (rule ∷ rest) h =
-      tells_first here low rule rest (rule_refusal names all here false) refl h (first_refused_rule names all (here + 1) rest) (rules_tell (here + 1) (rule.line + 1) rest h.1)
+      tells_first here low rule rest (rule_refusal_at names all here false) refl h (first_refused_rule names all (here + 1) rest) (rules_tell (here + 1) (rule.line + 1) rest h.1)

@@ -16,7 +16,7 @@ use Rattle.uw_rules.specs.Grammar.{kind_of_line}
 use Rattle.uw_rules.specs.Tables.{AreRuleLines, IsRuleLine}
 use Rattle.uw_rules.proofs.LineLemmas.{after_utf8}
 use Rattle.uw_conf.specs.Lines.{Line, nothing, section, option, broken, ends_with_byte, line_of, option_line}
-use Rattle.uw_conf.specs.Routes.{rule_in, rule_of_line, rules_inside}
+use Rattle.uw_conf.specs.Routes.{rule_in, line_of_rule, rules_inside}
 use Rattle.uw_conf.proofs.RouteLemmas.{RisesFrom}
 
 -- ---- trimmed texts
@@ -135,7 +135,7 @@ rule_if : (b : Bool) (rules : List RuleLine) → (b ≡ true → AllByRecursion 
 rule_if true rules h = h refl
 rule_if false rules h = tt
 
-rule_of : (number : ℕ) (line : Line) → ValueIs (λ value. IsUtf8 value × (length value < 2 ^ 32)) line → AllByRecursion IsRuleLine (rule_of_line number line)
+rule_of : (number : ℕ) (line : Line) → ValueIs (λ value. IsUtf8 value × (length value < 2 ^ 32)) line → AllByRecursion IsRuleLine (line_of_rule number line)
 rule_of number nothing h = tt
 rule_of number (section name) h = tt
 rule_of number (option name value) h = rule_if (is_some (kind_of_line name)) _ (λ known. (record { option = known; text = h.0; short = h.1 }, tt))

@@ -5,7 +5,7 @@ use Rattle.uw_outside.specs.Faults.{Rose}
 use Rattle.uw_rules.specs.declared.kinds.RuleKind.TheVariants as refusals
 use Rattle.uw_rules.specs.declared.lines.RuleLine.{RuleLine}
 use Rattle.uw_rules.specs.Compiled.{rules_of}
-use Rattle.uw_rules.specs.Rules.{place_of_label, table_of, refusal_at as rule_refusal}
+use Rattle.uw_rules.specs.Rules.{place_of_label, table_of, rule_refusal_at}
 use Rattle.uw_rules.specs.Tables.{AreRulesOf}
 use Rattle.uw_conf.specs.declared.conf.Conf.{Conf}
 use Rattle.uw_conf.specs.declared.conf.ConfFault.{ConfFault}
@@ -37,18 +37,12 @@ HasRoutesOf lines conf = AreRulesOf (cache_names_of lines) (place_of_label (rule
 pub record IsPatternRefused (lines : List (List ℕ)) (fault : ConfFault) : Type 0 where
   pub here : ℕ
   pub line : IsSomeAnd (slice_get (rule_lines_of lines) here) (λ (rule : RuleLine). rule.line ≡ fault.line)
-  pub refused : rule_refusal (cache_names_of lines) (rule_lines_of lines) here true ≡ Some refusals.PatternRefused
+  pub refused : rule_refusal_at (cache_names_of lines) (rule_lines_of lines) here true ≡ Some refusals.PatternRefused
   pub kind : fault.kind ≡ kinds.Rule refusals.PatternRefused
   pub least : IfErr (said_by lines) (λ (other : ConfFault). fault.line ≤ other.line)
 
--- a reading of lines is the defined configuration with its rules; or the least refused line; or a rule's line whose pattern the maker of patterns refused and counted,
+-- a reading of a text is the defined configuration with its rules; or the least refused line; or a rule's line whose pattern the maker of patterns refused and counted,
 -- and before which none is refused
-abbrev pub ReadsLines : List (List ℕ) → ℕ → ℕ → Result Conf ConfError → Type 0
-ReadsLines lines before after (Ok conf) = (said_by lines ≡ Ok (options_in conf)) × HasRoutesOf lines conf
-ReadsLines lines before after (Err (errors.Refused fault)) = (said_by lines ≡ Err fault) ⊎ (IsPatternRefused lines fault × Rose before after)
-ReadsLines lines before after (Err errors.Memory) = Unit {0}
-
--- the same of a text, which is refused as a whole where it is too large
 abbrev pub ReadsConf : List ℕ → ℕ → ℕ → Result Conf ConfError → Type 0
 ReadsConf text before after (Ok conf) = (configuration_of text ≡ Ok (options_in conf)) × HasRoutesOf (lines text) conf
 ReadsConf text before after (Err (errors.Refused fault)) = (configuration_of text ≡ Err fault) ⊎ ((length text ≤ most_text_bytes) × IsPatternRefused (lines text) fault × Rose before after)

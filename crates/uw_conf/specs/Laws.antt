@@ -13,7 +13,7 @@ use Rattle.uw_base.specs.Texts.{trimmed}
 use Rattle.uw_conf.specs.declared.options.OptionKind.{OptionKind}
 use Rattle.uw_conf.specs.declared.options.OptionKind.TheVariants as of
 use Rattle.uw_rules.specs.declared.lines.RuleLine.{RuleLine}
-use Rattle.uw_rules.specs.Rules.{refusal_at as rule_refusal}
+use Rattle.uw_rules.specs.Rules.{rule_refusal_at}
 use Rattle.uw_conf.specs.declared.conf.ConfKind.TheVariants as kinds
 use Rattle.uw_conf.specs.Reading.{ReadSoFar, blank_reading, option_kind, read_line, reading_after}
 use Rattle.uw_conf.specs.Routes.{cache_names_of, rule_lines_of}
@@ -42,7 +42,7 @@ own_refusal_at lines (suc before) = refusal_from blank_reading lines before
 -- why the rule of a line is refused in its table, if the line is a rule's and it is
 abbrev pub rule_refusal_on : List (List ℕ) → List RuleLine → ℕ → Option ConfKind
 rule_refusal_on names rules number =
-    option_map kinds.Rule (option_and_then (λ place. rule_refusal names rules place false) (position_from (λ (rule : RuleLine). rule.line == number) 0 rules))
+    option_map kinds.Rule (option_and_then (λ place. rule_refusal_at names rules place false) (position_from (λ (rule : RuleLine). rule.line == number) 0 rules))
 
 -- why the line of a number is refused: by itself, or as a rule of the table
 abbrev pub refusal_at : List (List ℕ) → ℕ → Option ConfKind

@@ -128,11 +128,6 @@ read_lines (Err fault) number lines = Err fault
 read_lines (Ok r) number [] = Ok r
 read_lines (Ok r) number (line ∷ lines) = read_lines (at_line number (read_line r line)) (number + 1) lines
 
--- what a reading has read, without where it stands
-abbrev pub conf_read : Result ReadSoFar ConfFault → Result Options ConfFault
-conf_read (Err fault) = Err fault
-conf_read (Ok r) = Ok r.conf
-
 -- a reading before the first line
 abbrev pub blank_reading : ReadSoFar
 blank_reading = record { inside = None; conf = blank_conf }

@@ -8,18 +8,18 @@ use Rattle.uw_model.specs.declared.conf.CacheConf.{CacheConf}
 use Rattle.uw_rules.specs.declared.lines.RuleLine.{RuleLine}
 use Rattle.uw_rules.specs.declared.kinds.RuleKind.{RuleKind}
 use Rattle.uw_rules.specs.Grammar.{kind_of_line}
-use Rattle.uw_rules.specs.Rules.{refusal_at as rule_refusal}
+use Rattle.uw_rules.specs.Rules.{rule_refusal_at}
 use Rattle.uw_conf.specs.declared.conf.ConfFault.{ConfFault}
 use Rattle.uw_conf.specs.declared.conf.ConfKind.TheVariants as kinds
 use Rattle.uw_conf.specs.Lines.{Line, nothing, section, option, broken, line_of}
 use Rattle.uw_conf.specs.Reading.{ReadSoFar, blank_reading, read_line, reading_after, refused_at, unless_refused}
 
--- the rule of a line with this number, if it is one
-abbrev pub rule_of_line : ℕ → Line → List RuleLine
-rule_of_line number nothing = []
-rule_of_line number (section name) = []
-rule_of_line number (option name value) = if is_some (kind_of_line name) then record { line = number; form = name; text = value } ∷ [] else []
-rule_of_line number broken = []
+-- the line of a rule, with this number, if the line is one
+abbrev pub line_of_rule : ℕ → Line → List RuleLine
+line_of_rule number nothing = []
+line_of_rule number (section name) = []
+line_of_rule number (option name value) = if is_some (kind_of_line name) then record { line = number; form = name; text = value } ∷ [] else []
+line_of_rule number broken = []
 
 -- rules, where they stand in the section; before any section, and in another one, there are none
 abbrev pub rules_inside : Option Bool → List RuleLine → List RuleLine
@@ -29,7 +29,7 @@ rules_inside (Some true) rules = rules
 
 -- the rule of a line of a text
 abbrev pub rule_in : Option Bool → ℕ → List ℕ → List RuleLine
-rule_in inside number line = if utf8_valid_len line == length line then rules_inside inside (rule_of_line number (line_of (trimmed line))) else []
+rule_in inside number line = if utf8_valid_len line == length line then rules_inside inside (line_of_rule number (line_of (trimmed line))) else []
 
 -- the rules among the lines from a number on, behind a reading
 abbrev pub rules_behind : ReadSoFar → ℕ → List (List ℕ) → List RuleLine
@@ -52,4 +52,4 @@ rule_refused_at line kind = refused_at line (kinds.Rule kind)
 abbrev pub first_refused_rule : List (List ℕ) → List RuleLine → ℕ → List RuleLine → Option ConfFault
 first_refused_rule names rules here [] = None
 first_refused_rule names rules here (rule ∷ rest) =
-    option_or (option_map (rule_refused_at rule.line) (rule_refusal names rules here false)) (first_refused_rule names rules (here + 1) rest)
+    option_or (option_map (rule_refused_at rule.line) (rule_refusal_at names rules here false)) (first_refused_rule names rules (here + 1) rest)

@@ -2,8 +2,8 @@
 ghost use Rattle.std.specs.Prelude.{◌≡◌, ◌<◌, ◌^◌, ℕ, List, Some, Ok, Err, IfOk, length};
 ghost use Rattle.uw_rules.specs.Tables.{AreRuleLines};
 ghost use Rattle.uw_conf.specs.Configuration.{lesser_fault};
-ghost use Rattle.uw_conf.specs.DecidingSteps.{Decides};
-ghost use Rattle.uw_conf.specs.Given.{ReadsConf, ReadsLines};
+ghost use Rattle.uw_conf.specs.DecidingSteps.{Decides, ReadsLines};
+ghost use Rattle.uw_conf.specs.Given.{ReadsConf};
 ghost use Rattle.uw_conf.specs.ReadingSteps.{WalksOver};
 ghost use Rattle.uw_conf.specs.Sound.{AreCaches};
 

@@ -7,10 +7,9 @@ ghost use Rattle.uw_conf.specs.declared.conf.Options.{Options};
 ghost use Rattle.uw_conf.specs.Caches.{blank_draft, conf_of, region_bytes, most_region_bytes};
 ghost use Rattle.uw_conf.specs.declared.conf.ConfFault.{ConfFault};
 ghost use Rattle.uw_conf.specs.declared.options.OptionKind.TheVariants as of;
-ghost use Rattle.uw_conf.specs.Reading.{blank_reading, conf_read, read_lines};
-ghost use Rattle.uw_conf.specs.Configuration.{configuration_of, most_text_bytes};
-ghost use Rattle.uw_conf.specs.Reading.{reading_after};
+ghost use Rattle.uw_conf.specs.Configuration.{configuration_of, most_text_bytes, said_by};
 ghost use Rattle.uw_conf.specs.Laws.{IsLeastRefusal, IsPlainLine, last_value, number_or, refusal_at, settings_of};
+ghost use Rattle.uw_conf.specs.Reading.{blank_reading, reading_after};
 ghost use Rattle.uw_conf.specs.Sizes.{region_words};
 ghost use Rattle.uw_conf.specs.Sound.{HasLimits, HaveOwnNames};
 
@@ -68,5 +67,5 @@ pub fn options_count_by_their_last_line()
 pub fn lines_of_other_sections_change_nothing()
     ensures { (front others more back : List (List ℕ)) → (reading_after blank_reading front).inside ≡ Some false
         → AllByRecursion IsPlainLine others → AllByRecursion IsPlainLine more → length others ≡ length more
-        → conf_read (read_lines (Ok blank_reading) 1 (front ++ others ++ back)) ≡ conf_read (read_lines (Ok blank_reading) 1 (front ++ more ++ back)) }
+        → said_by (front ++ others ++ back) ≡ said_by (front ++ more ++ back) }
 {}

@@ -3,7 +3,7 @@ ghost use Rattle.std.specs.Prelude.{◌≡◌, ◌≤◌, ◌++◌, [], length, 
 ghost use Rattle.std.specs.Str.Lines.{lines};
 ghost use Rattle.uw_conf.specs.Lines.{option};
 ghost use Rattle.uw_conf.specs.Reading.{blank_conf, blank_reading, read_line, with_conf, with_line, with_option};
-ghost use Rattle.uw_conf.specs.Routes.{rule_in, rule_of_line, rules_inside};
+ghost use Rattle.uw_conf.specs.Routes.{rule_in, line_of_rule, rules_inside};
 ghost use Rattle.uw_conf.specs.ReadingSteps.{Makes, PutsRules, StepsOver, WalksOver, line_seen, progress_seen};
 ghost use Rattle.uw_conf.specs.Sound.{AreCaches};
 ghost use Rattle.uw_rules.specs.Tables.{AreRuleLines};
@@ -59,7 +59,7 @@ fn put_rule(
     name: &[u8],
     value: &[u8],
 ) -> Result<(), Memory>
-    ensures { OnOk result (rules.new ≡ rules.old ++ rule_of_line number (option name.now value.now)) }
+    ensures { OnOk result (rules.new ≡ rules.old ++ line_of_rule number (option name.now value.now)) }
 {
     if !is_rule_option(name) {
         return Ok(());
@@ -96,7 +96,7 @@ impl Progress {
         requires { AreCaches self.old.options.caches }
         ensures reading { Makes (progress_seen self.old) (progress_seen self.new) result
             (with_conf (progress_seen self.old) (with_option self.old.options name.now value.now)) }
-        ensures rules { PutsRules self.old self.new result (rule_of_line number (option name.now value.now)) }
+        ensures rules { PutsRules self.old self.new result (line_of_rule number (option name.now value.now)) }
     {
         put_rule(alloc, &mut self.rules, number, name, value)?;
         take_option(alloc, &mut self.options, name, value)
@@ -108,7 +108,7 @@ impl Progress {
         ensures reading { Makes (progress_seen self.old) (progress_seen self.new) result
             (with_line (progress_seen self.old) (line_seen line.entry)) }
         ensures rules { PutsRules self.old self.new result
-            (rules_inside self.old.inside (rule_of_line number (line_seen line.entry))) }
+            (rules_inside self.old.inside (line_of_rule number (line_seen line.entry))) }
     {
         match line {
             LineKind::Nothing => Ok(()),

@@ -214,10 +214,7 @@ fn a_refused_pattern_names_its_line(rt: HostRuntime) -> Result<(), Fail> {
             b"[uwsgi]\nworkers = 0\nroute = a break\n",
             at(2, ConfKind::BadValue),
         ),
-        (
-            b"[uwsgi]\nroute = a break\nworkers = 0\n",
-            at(2, refused),
-        ),
+        (b"[uwsgi]\nroute = a break\nworkers = 0\n", at(2, refused)),
     ];
     for (text, want) in rows {
         let found = fault_without_first_pattern(&rt, rt.alloc(), text)?;

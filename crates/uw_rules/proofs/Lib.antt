@@ -5,3 +5,4 @@ pub mod LabelLemmas
 pub mod RefusalLemmas
 pub mod LineLemmas
 pub mod TableLemmas
+pub mod LawLemmas

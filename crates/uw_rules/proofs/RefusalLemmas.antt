@@ -91,11 +91,11 @@ module _ (written : WrittenRule) where
 
 -- ---- what a rule that is not refused has
 
-both_false : (a b : Bool) → (a || b) ≡ false → (a ≡ false) × (b ≡ false)
+pub both_false : (a b : Bool) → (a || b) ≡ false → (a ≡ false) × (b ≡ false)
 both_false true b h = absurd (cc)
 both_false false b h = (refl, h)
 
-passed : (b : Bool) (kind : RuleKind) (rest : Option RuleKind) → cond b (Some kind) rest ≡ None → (b ≡ false) × (rest ≡ None)
+pub passed : (b : Bool) (kind : RuleKind) (rest : Option RuleKind) → cond b (Some kind) rest ≡ None → (b ≡ false) × (rest ≡ None)
 passed true kind rest h = absurd (cc)
 passed false kind rest h = (refl, h)
 

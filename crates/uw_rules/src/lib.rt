@@ -9,6 +9,7 @@ mod grammar;
 mod judging;
 mod kinds;
 mod labels;
+pub mod laws;
 mod lines;
 pub mod patterns;
 mod reading;

@@ -116,7 +116,10 @@ const TAKEN: [(&[u8], &[u8]); 58] = [
     (b"route", b" continue"),
     (b"route", b"^/old/(.*)$ redirect-permanent:/new/$1"),
     (b"route", b"^/a \t last"),
-    (b"route-host", b"^www\\. redirect:https://example.com${REQUEST_URI}"),
+    (
+        b"route-host",
+        b"^www\\. redirect:https://example.com${REQUEST_URI}",
+    ),
     (b"route-uri", b"\\?q= break:410 Gone"),
     (b"route-qs", b"(^|&)p=(\\d+) rewrite:/p/$2?x=${qs[x]}"),
     (b"route-remote-addr", b"^10\\. return:403"),
@@ -140,11 +143,17 @@ const TAKEN: [(&[u8], &[u8]); 58] = [
     (b"route-run", b"send:a:b;c,d=e $ $0 ${v}"),
     (b"route-run", b"send:\xc3\xa9"),
     (b"route-run", b"cache:key=k"),
-    (b"route-run", b"cache:name=b,content_type=text/${x},key=${y}"),
+    (
+        b"route-run",
+        b"cache:name=b,content_type=text/${x},key=${y}",
+    ),
     (b"route-run", b"cachevar:var=v,key=k"),
     (b"route-run", b"cachevar:var=,key=,name=a"),
     (b"route-run", b"cacheset:key=k,value=v"),
-    (b"route-run", b"cacheset:key=k,value=v,expires=18446744073709551615,name=a,var=x"),
+    (
+        b"route-run",
+        b"cacheset:key=k,value=v,expires=18446744073709551615,name=a,var=x",
+    ),
     (b"route-run", b"cacheset:value=a=b,key==k="),
     (b"route-run", b"cacheupdate:key=k,value=v,expires=0"),
     (b"route-run", b"cachedel:key=k,name=a,var=v"),
@@ -162,13 +171,19 @@ const TAKEN: [(&[u8], &[u8]); 58] = [
     (b"route-if", b"empty:${QUERY_STRING} continue"),
     (b"route-if", b"empty: continue"),
     (b"route-if", b"empty:a,b=c continue"),
-    (b"route-if", b"regexp:${REQUEST_METHOD};^(GET|HEAD)$ continue"),
+    (
+        b"route-if",
+        b"regexp:${REQUEST_METHOD};^(GET|HEAD)$ continue",
+    ),
     (b"route-if", b"regexp:;a;b continue"),
     (b"route-if", b"incache:key=${PATH_INFO},name=b cache:key=x"),
     (b"route-if", b"incache:name=a,key=a;b continue"),
     (b"route-label", b"a"),
     (b"route-label", b"\xc3\xa9;,=:\t"),
-    (b"route-label", b"0123456789012345678901234567890123456789012345678901234567890123"),
+    (
+        b"route-label",
+        b"0123456789012345678901234567890123456789012345678901234567890123",
+    ),
     (b"route-if", b"equal:\xc3\xa9;\xc3\xa9 send:\xc3\xa9"),
 ];
 
@@ -199,7 +214,11 @@ const REFUSED: [(&[u8], &[u8], RuleKind); 94] = [
     (b"route-run", b"return:", RuleKind::BadRule),
     (b"route-run", b"return:201", RuleKind::BadRule),
     (b"route-run", b"return:200 OK", RuleKind::BadRule),
-    (b"route-run", b"return:000000000000000000200", RuleKind::BadRule),
+    (
+        b"route-run",
+        b"return:000000000000000000200",
+        RuleKind::BadRule,
+    ),
     (b"route-run", b"goto", RuleKind::BadRule),
     (b"route-run", b"goto:", RuleKind::BadRule),
     (b"route-run", b"goto:a b", RuleKind::BadRule),
@@ -225,17 +244,33 @@ const REFUSED: [(&[u8], &[u8], RuleKind); 94] = [
     (b"route-run", b"cache:key=k,value=v", RuleKind::BadRule),
     (b"route-run", b"cache:key=k,var=v", RuleKind::BadRule),
     (b"route-run", b"cachevar:key=k", RuleKind::BadRule),
-    (b"route-run", b"cachevar:key=k,var=v,expires=1", RuleKind::BadRule),
+    (
+        b"route-run",
+        b"cachevar:key=k,var=v,expires=1",
+        RuleKind::BadRule,
+    ),
     (b"route-run", b"cacheset:key=k", RuleKind::BadRule),
     (b"route-run", b"cacheset:value=v", RuleKind::BadRule),
-    (b"route-run", b"cacheset:key=k,value=v,expires=", RuleKind::BadRule),
-    (b"route-run", b"cacheset:key=k,value=v,expires=-1", RuleKind::BadRule),
+    (
+        b"route-run",
+        b"cacheset:key=k,value=v,expires=",
+        RuleKind::BadRule,
+    ),
+    (
+        b"route-run",
+        b"cacheset:key=k,value=v,expires=-1",
+        RuleKind::BadRule,
+    ),
     (
         b"route-run",
         b"cacheset:key=k,value=v,expires=18446744073709551616",
         RuleKind::BadRule,
     ),
-    (b"route-run", b"cacheset:key=k,value=v,amount=1", RuleKind::BadRule),
+    (
+        b"route-run",
+        b"cacheset:key=k,value=v,amount=1",
+        RuleKind::BadRule,
+    ),
     (b"route-run", b"cachedel:key=k,value=v", RuleKind::BadRule),
     (b"route-run", b"cacheinc:key=k,amount=", RuleKind::BadRule),
     (b"route-run", b"cacheinc:key=k,amount=x", RuleKind::BadRule),
@@ -255,38 +290,78 @@ const REFUSED: [(&[u8], &[u8], RuleKind); 94] = [
     (b"route-if", b"regexp:a continue", RuleKind::BadRule),
     (b"route-if", b"incache continue", RuleKind::BadRule),
     (b"route-if", b"incache:name=a continue", RuleKind::BadRule),
-    (b"route-if", b"incache:key=k,var=v continue", RuleKind::BadRule),
+    (
+        b"route-if",
+        b"incache:key=k,var=v continue",
+        RuleKind::BadRule,
+    ),
     (b"route-if", b"nothing:a;b return:1", RuleKind::BadRule),
     (b"route-if", b"nothing continue", RuleKind::UnknownCondition),
     (b"route-if", b" continue", RuleKind::UnknownCondition),
     (b"route-if", b":a continue", RuleKind::UnknownCondition),
     (b"route-if", b"Empty:a continue", RuleKind::UnknownCondition),
-    (b"route-if-not", b"empty=a continue", RuleKind::UnknownCondition),
+    (
+        b"route-if-not",
+        b"empty=a continue",
+        RuleKind::UnknownCondition,
+    ),
     (b"route", b"( continue", RuleKind::BadPattern),
     (b"route", b"*", RuleKind::BadRule),
     (b"route", b"* nothing", RuleKind::BadPattern),
     (b"route-if", b"regexp:a;[ continue", RuleKind::BadPattern),
-    (b"route", b"(a{1000}){1000} continue", RuleKind::PatternRefused),
+    (
+        b"route",
+        b"(a{1000}){1000} continue",
+        RuleKind::PatternRefused,
+    ),
     (b"route", b"^/a ", RuleKind::UnknownAction),
     (b"route", b"^/a :x", RuleKind::UnknownAction),
     (b"route-run", b"", RuleKind::UnknownAction),
     (b"route-run", b"CONTINUE", RuleKind::UnknownAction),
     (b"route-run", b"spool:a=b", RuleKind::UnknownAction),
     (b"route-run", b"spool-end:0", RuleKind::UnknownAction),
-    (b"route-run", b"arearead:area=0,at=0,len=1,var=v", RuleKind::UnknownAction),
+    (
+        b"route-run",
+        b"arearead:area=0,at=0,len=1,var=v",
+        RuleKind::UnknownAction,
+    ),
     (b"route-if", b"empty:${ nothing", RuleKind::UnknownAction),
     (b"route-run", b"send:${", RuleKind::BadTemplate),
     (b"route-run", b"addheader:X: ${}", RuleKind::BadTemplate),
     (b"route-run", b"addvar:${=${a]}", RuleKind::BadTemplate),
-    (b"route-run", b"cacheset:key=k,value=${time[x]}", RuleKind::BadTemplate),
-    (b"route-if", b"empty:${x[y]} continue", RuleKind::BadTemplate),
+    (
+        b"route-run",
+        b"cacheset:key=k,value=${time[x]}",
+        RuleKind::BadTemplate,
+    ),
+    (
+        b"route-if",
+        b"empty:${x[y]} continue",
+        RuleKind::BadTemplate,
+    ),
     (b"route-if", b"regexp:${;a continue", RuleKind::BadTemplate),
-    (b"route-if", b"equal:a;${httptime[x]} goto:x", RuleKind::BadTemplate),
+    (
+        b"route-if",
+        b"equal:a;${httptime[x]} goto:x",
+        RuleKind::BadTemplate,
+    ),
     (b"route-run", b"goto:x", RuleKind::LabelNotAhead),
-    (b"route-if", b"incache:key=k,name=c goto:x", RuleKind::LabelNotAhead),
-    (b"route-if", b"incache:key=k,name=c continue", RuleKind::UnknownName),
+    (
+        b"route-if",
+        b"incache:key=k,name=c goto:x",
+        RuleKind::LabelNotAhead,
+    ),
+    (
+        b"route-if",
+        b"incache:key=k,name=c continue",
+        RuleKind::UnknownName,
+    ),
     (b"route-run", b"cache:key=k,name=", RuleKind::UnknownName),
-    (b"route-run", b"cachedel:key=k,name=A", RuleKind::UnknownName),
+    (
+        b"route-run",
+        b"cachedel:key=k,name=A",
+        RuleKind::UnknownName,
+    ),
 ];
 
 #[test]
@@ -306,19 +381,35 @@ fn labels_stand_ahead_and_once(rt: HostRuntime) -> Result<(), Fail> {
             Some((2, RuleKind::LabelNotAhead)),
         ),
         (
-            &[(b"route-label", b"x"), (b"route-run", b"last"), (b"route-label", b"x")],
+            &[
+                (b"route-label", b"x"),
+                (b"route-run", b"last"),
+                (b"route-label", b"x"),
+            ],
             Some((3, RuleKind::LabelTwice)),
         ),
         (
-            &[(b"route-label", b"x"), (b"route-run", b"goto:x"), (b"route-label", b"x")],
+            &[
+                (b"route-label", b"x"),
+                (b"route-run", b"goto:x"),
+                (b"route-label", b"x"),
+            ],
             Some((2, RuleKind::LabelNotAhead)),
         ),
         (
-            &[(b"route-run", b"goto:x"), (b"route-run", b"goto:y"), (b"route-label", b"x")],
+            &[
+                (b"route-run", b"goto:x"),
+                (b"route-run", b"goto:y"),
+                (b"route-label", b"x"),
+            ],
             Some((2, RuleKind::LabelNotAhead)),
         ),
         (
-            &[(b"route-run", b"goto:x"), (b"route-label", b"x y"), (b"route-label", b"x")],
+            &[
+                (b"route-run", b"goto:x"),
+                (b"route-label", b"x y"),
+                (b"route-label", b"x"),
+            ],
             Some((2, RuleKind::BadRule)),
         ),
         (
@@ -336,12 +427,24 @@ fn labels_stand_ahead_and_once(rt: HostRuntime) -> Result<(), Fail> {
 #[test]
 fn caches_are_named_where_there_are_some(rt: HostRuntime) -> Result<(), Fail> {
     let rows: [(&[u8], &[u8], Option<(u32, RuleKind)>); 3] = [
-        (b"route-run", b"cache:key=k", Some((1, RuleKind::UnknownName))),
-        (b"route-run", b"cache:key=k,name=a", Some((1, RuleKind::UnknownName))),
+        (
+            b"route-run",
+            b"cache:key=k",
+            Some((1, RuleKind::UnknownName)),
+        ),
+        (
+            b"route-run",
+            b"cache:key=k,name=a",
+            Some((1, RuleKind::UnknownName)),
+        ),
         (b"route-run", b"send:k", None),
     ];
     for (form, text, want) in rows {
-        assert_eq!(rt; refusal(&rt, rt.alloc(), &[(form, text)], &[], &[])?, want, "{text:?}");
+        assert_eq!(rt;
+            refusal(&rt, rt.alloc(), &[(form, text)], &[], &[])?,
+            want,
+            "{text:?}"
+        );
     }
     Ok(())
 }
@@ -385,15 +488,27 @@ fn large_texts_have_their_one_answer(rt: HostRuntime) -> Result<(), Fail> {
     let mut deep = copies(alloc, b"", b"(", 1_000)?;
     deep.append(copies(alloc, b"", b")", 1_000)?.as_slice())?;
     deep.append(b" continue")?;
-    assert_eq!(rt; kind(&rt, alloc, b"route", deep.as_slice())?, Some(RuleKind::BadPattern));
+    assert_eq!(rt;
+        kind(&rt, alloc, b"route", deep.as_slice())?,
+        Some(RuleKind::BadPattern)
+    );
     let open = copies(alloc, b"send:", b"${", 60_000)?;
-    assert_eq!(rt; kind(&rt, alloc, b"route-run", open.as_slice())?, Some(RuleKind::BadTemplate));
+    assert_eq!(rt;
+        kind(&rt, alloc, b"route-run", open.as_slice())?,
+        Some(RuleKind::BadTemplate)
+    );
     let closed = copies(alloc, b"send:", b"${a}", 60_000)?;
     assert_eq!(rt; kind(&rt, alloc, b"route-run", closed.as_slice())?, None);
     let pairs = copies(alloc, b"cache:key=k", b",key=k", 1_000)?;
-    assert_eq!(rt; kind(&rt, alloc, b"route-run", pairs.as_slice())?, Some(RuleKind::BadRule));
+    assert_eq!(rt;
+        kind(&rt, alloc, b"route-run", pairs.as_slice())?,
+        Some(RuleKind::BadRule)
+    );
     let strays = copies(alloc, b"cache:key=k", b",", 300_000)?;
-    assert_eq!(rt; kind(&rt, alloc, b"route-run", strays.as_slice())?, Some(RuleKind::BadRule));
+    assert_eq!(rt;
+        kind(&rt, alloc, b"route-run", strays.as_slice())?,
+        Some(RuleKind::BadRule)
+    );
     Ok(())
 }
 
@@ -407,16 +522,25 @@ fn a_table_has_4096_rules(rt: HostRuntime) -> Result<(), Fail> {
     }
     assert!(rt; lines.len() == 4_096);
     let at = |line, kind| Err(RulesError::Refused { line, kind });
-    assert_eq!(rt; outcome(read(&rt, alloc, &lines, &[], &[])), at(1, RuleKind::LabelNotAhead));
+    assert_eq!(rt;
+        outcome(read(&rt, alloc, &lines, &[], &[])),
+        at(1, RuleKind::LabelNotAhead)
+    );
     put(alloc, &mut lines, b"route-label", b"end")?;
-    assert_eq!(rt; outcome(read(&rt, alloc, &lines, &[], &[])), at(1, RuleKind::LabelNotAhead));
+    assert_eq!(rt;
+        outcome(read(&rt, alloc, &lines, &[], &[])),
+        at(1, RuleKind::LabelNotAhead)
+    );
     let mut lines = RuleLineList::new(alloc);
     for _ in 0..4_096 {
         put(alloc, &mut lines, b"route-run", b"continue")?;
     }
     assert_eq!(rt; outcome(read(&rt, alloc, &lines, &[], &[])), Ok(4_096));
     put(alloc, &mut lines, b"route-label", b"a b")?;
-    assert_eq!(rt; outcome(read(&rt, alloc, &lines, &[], &[])), at(4_097, RuleKind::TooManyRules));
+    assert_eq!(rt;
+        outcome(read(&rt, alloc, &lines, &[], &[])),
+        at(4_097, RuleKind::TooManyRules)
+    );
     Ok(())
 }
 
@@ -439,7 +563,10 @@ fn rules_name_subjects_caches_and_rules(rt: HostRuntime) -> Result<(), Fail> {
         rt.alloc(),
         &[
             (b"route-host", b"^www\\. goto:out"),
-            (b"route-if-not", b"equal:x;y cacheset:name=b,key=k,value=v,expires=5,var=r"),
+            (
+                b"route-if-not",
+                b"equal:x;y cacheset:name=b,key=k,value=v,expires=5,var=r",
+            ),
             (b"route-label", b"out"),
             (b"route-run", b"cacheinc:key=n"),
             (b"route-run", b"addvar:K=a=b,c"),
@@ -462,11 +589,10 @@ fn rules_name_subjects_caches_and_rules(rt: HostRuntime) -> Result<(), Fail> {
     }
     match set {
         Rule::Act {
-            test:
-                Test::Holds {
-                    negated,
-                    condition: Condition::Equal { text, other },
-                },
+            test: Test::Holds {
+                negated,
+                condition: Condition::Equal { text, other },
+            },
             action: Action::CacheSet(write),
         } => {
             assert!(rt; *negated);
@@ -484,15 +610,14 @@ fn rules_name_subjects_caches_and_rules(rt: HostRuntime) -> Result<(), Fail> {
     match math {
         Rule::Act {
             test: Test::Always,
-            action:
-                Action::CacheMath {
-                    op,
-                    key,
-                    amount,
-                    expires,
-                    cache,
-                    ..
-                },
+            action: Action::CacheMath {
+                op,
+                key,
+                amount,
+                expires,
+                cache,
+                ..
+            },
         } => {
             assert_eq!(rt; *op, MathOp::Inc);
             assert_eq!(rt; fixed(key), b"n".as_slice());
