@@ -93,8 +93,8 @@ label_taken : (names : List (List ℕ)) (labels : List ℕ → Option ℕ) (here
 unfolding is_bad_rule has_unknown_condition has_bad_pattern has_unknown_action has_bad_template is_label_twice misses_label has_unknown_name
 label_taken names labels here text few good first =
     let before : early_refusal here (label text) ≡ None =
-        ap (λ (b : Bool). cond b (Some kinds.TooManyRules) (cond (not (is_label text)) (Some kinds.BadRule) None)) few
-        ∙ ap (λ (b : Bool). cond (not b) (Some kinds.BadRule) None) good in
+    ap (λ (b : Bool). cond b (Some kinds.TooManyRules) (cond (not (is_label text)) (Some kinds.BadRule) None)) few
+    ∙ ap (λ (b : Bool). cond (not b) (Some kinds.BadRule) None) good in
     let behind : late_refusal names labels here (label text) ≡ None = ap (λ (b : Bool). cond b (Some kinds.LabelTwice) None) first in
     let pattern : pattern_refusal false (label text) ≡ None = refl in
     late names labels here false (label text) before pattern ∙ behind
@@ -123,7 +123,7 @@ label_ahead names lines here text good h =
     let low : there < 4096 = omega (arith, length-map (take 4096 lines) rule_of_line, length-take 4096 lines) in
     let at : slice_get (table_of lines) there ≡ Some (label text) = sym (front_rule lines there low) ∙ is in
     let first : option_map_or (λ (first : ℕ). nat_lt first there) (place_of_label lines text) false ≡ false =
-        ap (λ (place : Option ℕ). option_map_or (λ (first : ℕ). nat_lt first there) place false) ahead.1 ∙ not_behind there in
+    ap (λ (place : Option ℕ). option_map_or (λ (first : ℕ). nat_lt first there) place false) ahead.1 ∙ not_behind there in
     (there, ahead.2, at, at_rule names lines there false (label text) at ∙ label_taken names (place_of_label lines) there text (is_few there low) good first)
 
 -- ---- what is not refused
@@ -192,11 +192,11 @@ goto_ahead names lines here test action shape text at known says free =
     let missed = passed (misses_label labels here said) _ _ once.1 in
     let missed_action = (both_false (any_text_of_test (is_missed_label labels here) test) _ missed.0).1 in
     let of_row : list_any (is_missed_label labels here) (places_of shape action.argument) ≡ false =
-        subst (λ (row : Option (ActionName × ArgumentShape)). option_map_or (λ (k : ActionName × ArgumentShape). list_any (is_missed_label labels here) (places_of k.1 action.argument)) row false ≡ false)
-        known missed_action in
+    subst (λ (row : Option (ActionName × ArgumentShape)). option_map_or (λ (k : ActionName × ArgumentShape). list_any (is_missed_label labels here) (places_of k.1 action.argument)) row false ≡ false)
+    known missed_action in
     let of_shape : list_any (is_missed_label labels here) (places_of (action_shape actions.Goto) action.argument) ≡ false =
-        subst (λ (s : ArgumentShape). list_any (is_missed_label labels here) (places_of s action.argument) ≡ false)
-        (action_has_shape action.name (actions.Goto, shape) known) of_row in
+    subst (λ (s : ArgumentShape). list_any (is_missed_label labels here) (places_of s action.argument) ≡ false)
+    (action_has_shape action.name (actions.Goto, shape) known) of_row in
     let of_text : list_any (is_missed_label labels here) (places_of (action_shape actions.Goto) (Some text)) ≡ false =
-        subst (λ (argument : Option (List ℕ)). list_any (is_missed_label labels here) (places_of (action_shape actions.Goto) argument) ≡ false) says of_shape in
+    subst (λ (argument : Option (List ℕ)). list_any (is_missed_label labels here) (places_of (action_shape actions.Goto) argument) ≡ false) says of_shape in
     not_false (is_ahead here (labels text)) (both_false _ _ of_text).0

@@ -16,12 +16,12 @@ rising_more : (xs : List ℕ) (here : ℕ) → ((k : ℕ) → k + 1 < here → s
     → (0 < here → slice_index xs (here - 1) < slice_index xs here) → (k : ℕ) → k + 1 < here + 1 → slice_index xs k < slice_index xs (k + 1)
 rising_more xs here h last k low =
     let before : (j : ℕ) → j < here → 0 < j → slice_index xs (j - 1) < slice_index xs j =
-        λ j below some.
-            let next : j - 1 + 1 ≡ j = omega arith in
-            let short : j - 1 + 1 < here = omega arith in
-            subst (λ (n : ℕ). slice_index xs (j - 1) < slice_index xs n) next (h (j - 1) short) in
+    λ j below some.
+    let next : j - 1 + 1 ≡ j = omega arith in
+    let short : j - 1 + 1 < here = omega arith in
+    subst (λ (n : ℕ). slice_index xs (j - 1) < slice_index xs n) next (h (j - 1) short) in
     let all : (j : ℕ) → j < here + 1 → 0 < j → slice_index xs (j - 1) < slice_index xs j =
-        below_more (λ (j : ℕ). 0 < j → slice_index xs (j - 1) < slice_index xs j) here before last in
+    below_more (λ (j : ℕ). 0 < j → slice_index xs (j - 1) < slice_index xs j) here before last in
     let same : k + 1 - 1 ≡ k = omega arith in
     let some : 0 < k + 1 = omega arith in
     subst (λ (n : ℕ). slice_index xs n < slice_index xs (k + 1)) same (all (k + 1) low some)
@@ -45,11 +45,11 @@ loop-here-preserved c =
       each = each_more lines here c.index-lines-here.result c.loop-here.invariant.each c.loop-here-test.true c.index-lines-here.is c.if-not-is_rule_line.ensures;
       rising =
           rising_more (numbers lines) here c.loop-here.invariant.rising
-          (elim c.else-here-gt0.branch
-           [ else-here-gt0-via-then-here-gt0+else-lines-here w ↦ λ some.
-               rises lines here w.index-lines-here-then-here-gt0.result w.index-lines-here-then-here-gt0-2.result c.loop-here-test.true w.if-lines-here.false
-           | else-here-gt0-via-else-here-gt0 w ↦ λ some. absurd (omega arith)
-           ]);
+          (elim c.else-here-gt0.branch [
+            | else-here-gt0-via-then-here-gt0+else-lines-here w ↦ λ some.
+                rises lines here w.index-lines-here-then-here-gt0.result w.index-lines-here-then-here-gt0-2.result c.loop-here-test.true w.if-lines-here.false
+            | else-here-gt0-via-else-here-gt0 w ↦ λ some. absurd (omega arith)
+          ]);
     }
 
 pub returns : goal.returns
