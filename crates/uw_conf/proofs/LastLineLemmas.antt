@@ -1,12 +1,12 @@
 -- An option that holds one number or text counts by its last line.
-use Rattle.std.proofs.Common.{◌≡◌, ℕ, ◌+◌, ◌==◌, Bool, true, false, ◌&&◌, cond, nat_le, nat_lt, List, [], ◌∷◌, ◌++◌, length, codes, unwrap_or, Option, Some, None, Result, Ok, Err, IfOk, refl, sym, ap, ◌∙◌}
+use Rattle.std.proofs.Common.{◌≡◌, ℕ, ◌+◌, ◌==◌, Bool, true, false, ◌&&◌, cond, nat_le, List, [], ◌∷◌, ◌++◌, length, codes, unwrap_or, Option, Some, None, Result, Ok, Err, IfOk, refl, sym, ap, ◌∙◌}
 use Rattle.std.specs.List.{last_or}
 use Rattle.std.specs.Str.{bytes_eq}
 use Rattle.std.specs.Str.Lines.{lines}
 use Rattle.std.specs.Str.Lossy.{utf8_valid_len}
 use Rattle.uw_base.specs.Numbers.{decimal_of}
 use Rattle.uw_model.specs.declared.conf.CacheConf.{CacheConf}
-use Rattle.uw_conf.specs.declared.conf.Conf.{Conf}
+use Rattle.uw_conf.specs.declared.conf.Options.{Options}
 use Rattle.uw_conf.specs.declared.conf.ConfFault.{ConfFault}
 use Rattle.uw_conf.specs.declared.conf.ConfKind.{ConfKind}
 use Rattle.uw_conf.specs.declared.conf.ConfKind.TheVariants as kinds
@@ -15,7 +15,10 @@ use Rattle.uw_conf.specs.declared.options.OptionKind.TheVariants as of
 use Rattle.uw_conf.specs.Lines.{Line, nothing, section, option, broken, line_of}
 use Rattle.uw_base.specs.Texts.{trimmed}
 use Rattle.uw_conf.specs.Caches.{number_in, with_cache}
-use Rattle.uw_conf.specs.Configuration.{ReadSoFar, blank_reading, option_kind, set_number, set_caches, set_option, with_option, with_conf, with_setting, with_broken_line, with_line, read_line, at_line, read_lines, conf_read, most_text_bytes, configuration_of}
+use Rattle.uw_conf.specs.Reading.{ReadSoFar, blank_reading, option_kind, set_number, set_caches, set_option, with_option, with_conf, with_setting, with_broken_line, with_line, read_line, at_line, read_lines}
+use Rattle.uw_conf.proofs.RefusalLemmas.{conf_read}
+use Rattle.uw_conf.specs.Configuration.{configuration_of}
+use Rattle.uw_conf.proofs.RefusalLemmas.{own_says}
 use Rattle.uw_conf.specs.Laws.{Setting, is_inside_behind, is_kind, last_value, number_or, setting_in, settings_from, settings_of, values_of}
 
 abbrev is_inside : Option Bool → Bool
@@ -27,8 +30,8 @@ ok_step P true x y h k = h refl
 ok_step P false x y h k = k refl
 
 -- a field of a configuration, of which each option says what it leaves in it: what its value says where it is of the kind, and else what was there
-module _ {A : Type 0} (field : Conf → A) (kind : OptionKind) (read : List ℕ → A)
-    (step : (conf : Conf) (name value : List ℕ) → IfOk (with_option conf name value) (λ next. field next ≡ cond (is_kind kind (option_kind name)) (read value) (field conf))) where
+module _ {A : Type 0} (field : Options → A) (kind : OptionKind) (read : List ℕ → A)
+    (step : (conf : Options) (name value : List ℕ) → IfOk (with_option conf name value) (λ next. field next ≡ cond (is_kind kind (option_kind name)) (read value) (field conf))) where
   abbrev pub value_or : A → Option (List ℕ) → A
   value_or default None = default
   value_or default (Some text) = read text
@@ -57,7 +60,7 @@ module _ {A : Type 0} (field : Conf → A) (kind : OptionKind) (read : List ℕ 
   Leaves r line read =
       IfOk read (λ mid. (settings : List Setting) → (is_inside mid.inside ≡ is_inside_behind (is_inside r.inside) line) × (by_last (field r.conf) (setting_in (is_inside r.inside) line ++ settings) ≡ by_last (field mid.conf) settings))
 
-  conf_leaves : (r : ReadSoFar) (name value : List ℕ) (x : Result Conf ConfKind) → r.inside ≡ Some true → IfOk x (λ next. field next ≡ cond (is_kind kind (option_kind name)) (read value) (field r.conf)) → Leaves r (option name value) (with_conf r x)
+  conf_leaves : (r : ReadSoFar) (name value : List ℕ) (x : Result Options ConfKind) → r.inside ≡ Some true → IfOk x (λ next. field next ≡ cond (is_kind kind (option_kind name)) (read value) (field r.conf)) → Leaves r (option name value) (with_conf r x)
   conf_leaves r name value (Err kind) inside h = tt
   conf_leaves r name value (Ok conf) inside h = λ settings. (rw inside refl, rw inside (one_more (field r.conf) (record { name = name; value = value }) settings ∙ ap (λ d. by_last d settings) (sym h)))
 
@@ -108,23 +111,19 @@ module _ {A : Type 0} (field : Conf → A) (kind : OptionKind) (read : List ℕ 
           let here = h (settings_from (is_inside_behind (is_inside r.inside) (line_of (trimmed line))) rest) in
           later mid e ∙ ap (λ inside. by_last (field mid.conf) (settings_from inside rest)) here.0 ∙ sym here.1
 
-  conf_of_reading : (x : Result ReadSoFar ConfFault) (conf : Conf) → conf_read x ≡ Ok conf → (r : ReadSoFar) × (x ≡ Ok r) × (r.conf ≡ conf)
+  conf_of_reading : (x : Result ReadSoFar ConfFault) (conf : Options) → conf_read x ≡ Ok conf → (r : ReadSoFar) × (x ≡ Ok r) × (r.conf ≡ conf)
   conf_of_reading (Err fault) conf e = absurd (cc)
   conf_of_reading (Ok r) conf e = (r, refl, cc)
 
-  small_text : (b : Bool) (fault : ConfFault) (x : Result Conf ConfFault) (conf : Conf) → cond b (Err fault) x ≡ Ok conf → x ≡ Ok conf
-  small_text true fault x conf e = absurd (cc)
-  small_text false fault x conf e = e
-
-  pub counts_by_last : (text : List ℕ) (conf : Conf) → configuration_of text ≡ Ok conf → field conf ≡ value_or (field blank_reading.conf) (last_or None (values_of kind (settings_from false (lines text))))
+  pub counts_by_last : (text : List ℕ) (conf : Options) → configuration_of text ≡ Ok conf → field conf ≡ value_or (field blank_reading.conf) (last_or None (values_of kind (settings_from false (lines text))))
   counts_by_last text conf says =
-      let read = conf_of_reading (read_lines (Ok blank_reading) 1 (lines text)) conf (small_text (nat_lt most_text_bytes (length text)) _ _ conf says) in
+      let read = conf_of_reading (read_lines (Ok blank_reading) 1 (lines text)) conf (own_says text conf says) in
       ap field (sym read.2) ∙ read_all blank_reading read.0 1 (lines text) read.1
 
 -- ---- what each option leaves in each field
 
 -- what an option leaves in the fields that hold one number or text: what its value says in its own, and the others as they were
-record FieldsAfter (kind : OptionKind) (value : List ℕ) (before after : Conf) : Type 0 where
+record FieldsAfter (kind : OptionKind) (value : List ℕ) (before after : Options) : Type 0 where
   of_buffer_size : after.buffer_size ≡ cond (is_kind of.BufferSize (Some kind)) (number_or 4096 (Some value)) before.buffer_size
   of_workers : after.workers ≡ cond (is_kind of.Workers (Some kind)) (number_or 1 (Some value)) before.workers
   of_harakiri : after.harakiri ≡ cond (is_kind of.Harakiri (Some kind)) (number_or 0 (Some value)) before.harakiri
@@ -134,7 +133,7 @@ record FieldsAfter (kind : OptionKind) (value : List ℕ) (before after : Conf) 
   of_socket : after.socket ≡ cond (is_kind of.Socket (Some kind)) (value) before.socket
 
 -- a number that is taken is the one that its text says
-number_left : (low high : ℕ) (value : List ℕ) (set : ℕ → Conf) (P : Conf → Type 0) → ((n : ℕ) → decimal_of value ≡ Some n → P (set n)) → IfOk (set_number (number_in low high value) set) P
+number_left : (low high : ℕ) (value : List ℕ) (set : ℕ → Options) (P : Options → Type 0) → ((n : ℕ) → decimal_of value ≡ Some n → P (set n)) → IfOk (set_number (number_in low high value) set) P
 number_left low high value set P each = by_number (decimal_of value) refl
   where
     taken : (b : Bool) (n : ℕ) → decimal_of value ≡ Some n → IfOk (set_number (cond b (Some n) None) set) P
@@ -145,11 +144,11 @@ number_left low high value set P each = by_number (decimal_of value) refl
     by_number None e = rw e tt
     by_number (Some n) e = rw e (taken (nat_le low n && nat_le n high) n e)
 
-caches_left : (conf : Conf) (r : Result (List CacheConf) ConfKind) (P : Conf → Type 0) → ((caches : List CacheConf) → P (record conf { caches = caches })) → IfOk (set_caches conf r) P
+caches_left : (conf : Options) (r : Result (List CacheConf) ConfKind) (P : Options → Type 0) → ((caches : List CacheConf) → P (record conf { caches = caches })) → IfOk (set_caches conf r) P
 caches_left conf (Err kind) P each = tt
 caches_left conf (Ok caches) P each = each caches
 
-set_leaves : (conf : Conf) (kind : OptionKind) (value : List ℕ) → IfOk (set_option conf kind value) (FieldsAfter kind value conf)
+set_leaves : (conf : Options) (kind : OptionKind) (value : List ℕ) → IfOk (set_option conf kind value) (FieldsAfter kind value conf)
 set_leaves conf of.BufferSize value = number_left 1 65535 value (λ n. record conf { buffer_size = n }) (FieldsAfter of.BufferSize value conf) (λ n e. record { of_buffer_size = rw e refl; of_workers = refl; of_harakiri = refl; of_expire_freq = refl; of_spoolers = refl; of_spool_freq = refl; of_socket = refl })
 set_leaves conf of.Workers value = number_left 1 64 value (λ n. record conf { workers = n }) (FieldsAfter of.Workers value conf) (λ n e. record { of_buffer_size = refl; of_workers = rw e refl; of_harakiri = refl; of_expire_freq = refl; of_spoolers = refl; of_spool_freq = refl; of_socket = refl })
 set_leaves conf of.Harakiri value = number_left 0 86400 value (λ n. record conf { harakiri = n }) (FieldsAfter of.Harakiri value conf) (λ n e. record { of_buffer_size = refl; of_workers = refl; of_harakiri = rw e refl; of_expire_freq = refl; of_spoolers = refl; of_spool_freq = refl; of_socket = refl })
@@ -158,10 +157,11 @@ set_leaves conf of.Spoolers value = number_left 1 16 value (λ n. record conf { 
 set_leaves conf of.SpoolFreq value = number_left 1 3600 value (λ n. record conf { spool_freq = n }) (FieldsAfter of.SpoolFreq value conf) (λ n e. record { of_buffer_size = refl; of_workers = refl; of_harakiri = refl; of_expire_freq = refl; of_spoolers = refl; of_spool_freq = rw e refl; of_socket = refl })
 set_leaves conf of.Socket value = ok_step (FieldsAfter of.Socket value conf) (length value == 0) (Err kinds.BadValue) (Ok (record conf { socket = value })) (λ _. tt) (λ _. record { of_buffer_size = refl; of_workers = refl; of_harakiri = refl; of_expire_freq = refl; of_spoolers = refl; of_spool_freq = refl; of_socket = refl })
 set_leaves conf of.Cache value = caches_left conf (with_cache conf.caches value) (FieldsAfter of.Cache value conf) (λ caches. record { of_buffer_size = refl; of_workers = refl; of_harakiri = refl; of_expire_freq = refl; of_spoolers = refl; of_spool_freq = refl; of_socket = refl })
+set_leaves conf of.Rule value = record { of_buffer_size = refl; of_workers = refl; of_harakiri = refl; of_expire_freq = refl; of_spoolers = refl; of_spool_freq = refl; of_socket = refl }
 set_leaves conf of.NoEffect value = record { of_buffer_size = refl; of_workers = refl; of_harakiri = refl; of_expire_freq = refl; of_spoolers = refl; of_spool_freq = refl; of_socket = refl }
 
 -- what an option leaves by its name, where what it leaves by its kind is known
-by_name : (P : Option OptionKind → Conf → Type 0) (conf : Conf) (name value : List ℕ) → ((kind : OptionKind) → IfOk (set_option conf kind value) (P (Some kind))) → IfOk (with_option conf name value) (P (option_kind name))
+by_name : (P : Option OptionKind → Options → Type 0) (conf : Options) (name value : List ℕ) → ((kind : OptionKind) → IfOk (set_option conf kind value) (P (Some kind))) → IfOk (with_option conf name value) (P (option_kind name))
 by_name P conf name value each = known (option_kind name) refl
   where
     known : (kind : Option OptionKind) → option_kind name ≡ kind → IfOk (with_option conf name value) (P (option_kind name))
@@ -172,87 +172,87 @@ of_result : {T E : Type 0} (x : Result T E) (P Q : T → Type 0) → ((t : T) �
 of_result (Ok t) P Q to h = to t h
 of_result (Err e) P Q to h = tt
 
-buffer_size_step : (conf : Conf) (name value : List ℕ) → IfOk (with_option conf name value) (λ (next : Conf). next.buffer_size ≡ cond (is_kind of.BufferSize (option_kind name)) (number_or 4096 (Some value)) conf.buffer_size)
+buffer_size_step : (conf : Options) (name value : List ℕ) → IfOk (with_option conf name value) (λ (next : Options). next.buffer_size ≡ cond (is_kind of.BufferSize (option_kind name)) (number_or 4096 (Some value)) conf.buffer_size)
 buffer_size_step conf name value =
     by_name (λ kind next. next.buffer_size ≡ cond (is_kind of.BufferSize kind) (number_or 4096 (Some value)) conf.buffer_size) conf name value (λ kind.
     of_result (set_option conf kind value) (FieldsAfter kind value conf) (λ next. next.buffer_size ≡ cond (is_kind of.BufferSize (Some kind)) (number_or 4096 (Some value)) conf.buffer_size) (λ next h. h.of_buffer_size) (set_leaves conf kind value))
 
-workers_step : (conf : Conf) (name value : List ℕ) → IfOk (with_option conf name value) (λ (next : Conf). next.workers ≡ cond (is_kind of.Workers (option_kind name)) (number_or 1 (Some value)) conf.workers)
+workers_step : (conf : Options) (name value : List ℕ) → IfOk (with_option conf name value) (λ (next : Options). next.workers ≡ cond (is_kind of.Workers (option_kind name)) (number_or 1 (Some value)) conf.workers)
 workers_step conf name value =
     by_name (λ kind next. next.workers ≡ cond (is_kind of.Workers kind) (number_or 1 (Some value)) conf.workers) conf name value (λ kind.
     of_result (set_option conf kind value) (FieldsAfter kind value conf) (λ next. next.workers ≡ cond (is_kind of.Workers (Some kind)) (number_or 1 (Some value)) conf.workers) (λ next h. h.of_workers) (set_leaves conf kind value))
 
-harakiri_step : (conf : Conf) (name value : List ℕ) → IfOk (with_option conf name value) (λ (next : Conf). next.harakiri ≡ cond (is_kind of.Harakiri (option_kind name)) (number_or 0 (Some value)) conf.harakiri)
+harakiri_step : (conf : Options) (name value : List ℕ) → IfOk (with_option conf name value) (λ (next : Options). next.harakiri ≡ cond (is_kind of.Harakiri (option_kind name)) (number_or 0 (Some value)) conf.harakiri)
 harakiri_step conf name value =
     by_name (λ kind next. next.harakiri ≡ cond (is_kind of.Harakiri kind) (number_or 0 (Some value)) conf.harakiri) conf name value (λ kind.
     of_result (set_option conf kind value) (FieldsAfter kind value conf) (λ next. next.harakiri ≡ cond (is_kind of.Harakiri (Some kind)) (number_or 0 (Some value)) conf.harakiri) (λ next h. h.of_harakiri) (set_leaves conf kind value))
 
-expire_freq_step : (conf : Conf) (name value : List ℕ) → IfOk (with_option conf name value) (λ (next : Conf). next.expire_freq ≡ cond (is_kind of.ExpireFreq (option_kind name)) (number_or 3 (Some value)) conf.expire_freq)
+expire_freq_step : (conf : Options) (name value : List ℕ) → IfOk (with_option conf name value) (λ (next : Options). next.expire_freq ≡ cond (is_kind of.ExpireFreq (option_kind name)) (number_or 3 (Some value)) conf.expire_freq)
 expire_freq_step conf name value =
     by_name (λ kind next. next.expire_freq ≡ cond (is_kind of.ExpireFreq kind) (number_or 3 (Some value)) conf.expire_freq) conf name value (λ kind.
     of_result (set_option conf kind value) (FieldsAfter kind value conf) (λ next. next.expire_freq ≡ cond (is_kind of.ExpireFreq (Some kind)) (number_or 3 (Some value)) conf.expire_freq) (λ next h. h.of_expire_freq) (set_leaves conf kind value))
 
-spoolers_step : (conf : Conf) (name value : List ℕ) → IfOk (with_option conf name value) (λ (next : Conf). next.spoolers ≡ cond (is_kind of.Spoolers (option_kind name)) (number_or 1 (Some value)) conf.spoolers)
+spoolers_step : (conf : Options) (name value : List ℕ) → IfOk (with_option conf name value) (λ (next : Options). next.spoolers ≡ cond (is_kind of.Spoolers (option_kind name)) (number_or 1 (Some value)) conf.spoolers)
 spoolers_step conf name value =
     by_name (λ kind next. next.spoolers ≡ cond (is_kind of.Spoolers kind) (number_or 1 (Some value)) conf.spoolers) conf name value (λ kind.
     of_result (set_option conf kind value) (FieldsAfter kind value conf) (λ next. next.spoolers ≡ cond (is_kind of.Spoolers (Some kind)) (number_or 1 (Some value)) conf.spoolers) (λ next h. h.of_spoolers) (set_leaves conf kind value))
 
-spool_freq_step : (conf : Conf) (name value : List ℕ) → IfOk (with_option conf name value) (λ (next : Conf). next.spool_freq ≡ cond (is_kind of.SpoolFreq (option_kind name)) (number_or 30 (Some value)) conf.spool_freq)
+spool_freq_step : (conf : Options) (name value : List ℕ) → IfOk (with_option conf name value) (λ (next : Options). next.spool_freq ≡ cond (is_kind of.SpoolFreq (option_kind name)) (number_or 30 (Some value)) conf.spool_freq)
 spool_freq_step conf name value =
     by_name (λ kind next. next.spool_freq ≡ cond (is_kind of.SpoolFreq kind) (number_or 30 (Some value)) conf.spool_freq) conf name value (λ kind.
     of_result (set_option conf kind value) (FieldsAfter kind value conf) (λ next. next.spool_freq ≡ cond (is_kind of.SpoolFreq (Some kind)) (number_or 30 (Some value)) conf.spool_freq) (λ next h. h.of_spool_freq) (set_leaves conf kind value))
 
-socket_step : (conf : Conf) (name value : List ℕ) → IfOk (with_option conf name value) (λ (next : Conf). next.socket ≡ cond (is_kind of.Socket (option_kind name)) (value) conf.socket)
+socket_step : (conf : Options) (name value : List ℕ) → IfOk (with_option conf name value) (λ (next : Options). next.socket ≡ cond (is_kind of.Socket (option_kind name)) (value) conf.socket)
 socket_step conf name value =
     by_name (λ kind next. next.socket ≡ cond (is_kind of.Socket kind) (value) conf.socket) conf name value (λ kind.
     of_result (set_option conf kind value) (FieldsAfter kind value conf) (λ next. next.socket ≡ cond (is_kind of.Socket (Some kind)) (value) conf.socket) (λ next h. h.of_socket) (set_leaves conf kind value))
 
-module _ (text : List ℕ) (conf : Conf) (says : configuration_of text ≡ Ok conf) where
+module _ (text : List ℕ) (conf : Options) (says : configuration_of text ≡ Ok conf) where
   pub buffer_size_last : conf.buffer_size ≡ number_or 4096 (last_value of.BufferSize (settings_of text))
-  buffer_size_last = counts_by_last (λ (c : Conf). c.buffer_size) of.BufferSize (λ text. number_or 4096 (Some text)) buffer_size_step text conf says ∙ by_value (last_value of.BufferSize (settings_of text))
+  buffer_size_last = counts_by_last (λ (c : Options). c.buffer_size) of.BufferSize (λ text. number_or 4096 (Some text)) buffer_size_step text conf says ∙ by_value (last_value of.BufferSize (settings_of text))
     where
-      by_value : (o : Option (List ℕ)) → value_or (λ (c : Conf). c.buffer_size) of.BufferSize (λ text. number_or 4096 (Some text)) buffer_size_step 4096 o ≡ number_or 4096 o
+      by_value : (o : Option (List ℕ)) → value_or (λ (c : Options). c.buffer_size) of.BufferSize (λ text. number_or 4096 (Some text)) buffer_size_step 4096 o ≡ number_or 4096 o
       by_value None = refl
       by_value (Some value) = refl
 
   pub workers_last : conf.workers ≡ number_or 1 (last_value of.Workers (settings_of text))
-  workers_last = counts_by_last (λ (c : Conf). c.workers) of.Workers (λ text. number_or 1 (Some text)) workers_step text conf says ∙ by_value (last_value of.Workers (settings_of text))
+  workers_last = counts_by_last (λ (c : Options). c.workers) of.Workers (λ text. number_or 1 (Some text)) workers_step text conf says ∙ by_value (last_value of.Workers (settings_of text))
     where
-      by_value : (o : Option (List ℕ)) → value_or (λ (c : Conf). c.workers) of.Workers (λ text. number_or 1 (Some text)) workers_step 1 o ≡ number_or 1 o
+      by_value : (o : Option (List ℕ)) → value_or (λ (c : Options). c.workers) of.Workers (λ text. number_or 1 (Some text)) workers_step 1 o ≡ number_or 1 o
       by_value None = refl
       by_value (Some value) = refl
 
   pub harakiri_last : conf.harakiri ≡ number_or 0 (last_value of.Harakiri (settings_of text))
-  harakiri_last = counts_by_last (λ (c : Conf). c.harakiri) of.Harakiri (λ text. number_or 0 (Some text)) harakiri_step text conf says ∙ by_value (last_value of.Harakiri (settings_of text))
+  harakiri_last = counts_by_last (λ (c : Options). c.harakiri) of.Harakiri (λ text. number_or 0 (Some text)) harakiri_step text conf says ∙ by_value (last_value of.Harakiri (settings_of text))
     where
-      by_value : (o : Option (List ℕ)) → value_or (λ (c : Conf). c.harakiri) of.Harakiri (λ text. number_or 0 (Some text)) harakiri_step 0 o ≡ number_or 0 o
+      by_value : (o : Option (List ℕ)) → value_or (λ (c : Options). c.harakiri) of.Harakiri (λ text. number_or 0 (Some text)) harakiri_step 0 o ≡ number_or 0 o
       by_value None = refl
       by_value (Some value) = refl
 
   pub expire_freq_last : conf.expire_freq ≡ number_or 3 (last_value of.ExpireFreq (settings_of text))
-  expire_freq_last = counts_by_last (λ (c : Conf). c.expire_freq) of.ExpireFreq (λ text. number_or 3 (Some text)) expire_freq_step text conf says ∙ by_value (last_value of.ExpireFreq (settings_of text))
+  expire_freq_last = counts_by_last (λ (c : Options). c.expire_freq) of.ExpireFreq (λ text. number_or 3 (Some text)) expire_freq_step text conf says ∙ by_value (last_value of.ExpireFreq (settings_of text))
     where
-      by_value : (o : Option (List ℕ)) → value_or (λ (c : Conf). c.expire_freq) of.ExpireFreq (λ text. number_or 3 (Some text)) expire_freq_step 3 o ≡ number_or 3 o
+      by_value : (o : Option (List ℕ)) → value_or (λ (c : Options). c.expire_freq) of.ExpireFreq (λ text. number_or 3 (Some text)) expire_freq_step 3 o ≡ number_or 3 o
       by_value None = refl
       by_value (Some value) = refl
 
   pub spoolers_last : conf.spoolers ≡ number_or 1 (last_value of.Spoolers (settings_of text))
-  spoolers_last = counts_by_last (λ (c : Conf). c.spoolers) of.Spoolers (λ text. number_or 1 (Some text)) spoolers_step text conf says ∙ by_value (last_value of.Spoolers (settings_of text))
+  spoolers_last = counts_by_last (λ (c : Options). c.spoolers) of.Spoolers (λ text. number_or 1 (Some text)) spoolers_step text conf says ∙ by_value (last_value of.Spoolers (settings_of text))
     where
-      by_value : (o : Option (List ℕ)) → value_or (λ (c : Conf). c.spoolers) of.Spoolers (λ text. number_or 1 (Some text)) spoolers_step 1 o ≡ number_or 1 o
+      by_value : (o : Option (List ℕ)) → value_or (λ (c : Options). c.spoolers) of.Spoolers (λ text. number_or 1 (Some text)) spoolers_step 1 o ≡ number_or 1 o
       by_value None = refl
       by_value (Some value) = refl
 
   pub spool_freq_last : conf.spool_freq ≡ number_or 30 (last_value of.SpoolFreq (settings_of text))
-  spool_freq_last = counts_by_last (λ (c : Conf). c.spool_freq) of.SpoolFreq (λ text. number_or 30 (Some text)) spool_freq_step text conf says ∙ by_value (last_value of.SpoolFreq (settings_of text))
+  spool_freq_last = counts_by_last (λ (c : Options). c.spool_freq) of.SpoolFreq (λ text. number_or 30 (Some text)) spool_freq_step text conf says ∙ by_value (last_value of.SpoolFreq (settings_of text))
     where
-      by_value : (o : Option (List ℕ)) → value_or (λ (c : Conf). c.spool_freq) of.SpoolFreq (λ text. number_or 30 (Some text)) spool_freq_step 30 o ≡ number_or 30 o
+      by_value : (o : Option (List ℕ)) → value_or (λ (c : Options). c.spool_freq) of.SpoolFreq (λ text. number_or 30 (Some text)) spool_freq_step 30 o ≡ number_or 30 o
       by_value None = refl
       by_value (Some value) = refl
 
   pub socket_last : conf.socket ≡ unwrap_or (last_value of.Socket (settings_of text)) []
-  socket_last = counts_by_last (λ (c : Conf). c.socket) of.Socket (λ text. text) socket_step text conf says ∙ by_value (last_value of.Socket (settings_of text))
+  socket_last = counts_by_last (λ (c : Options). c.socket) of.Socket (λ text. text) socket_step text conf says ∙ by_value (last_value of.Socket (settings_of text))
     where
-      by_value : (o : Option (List ℕ)) → value_or (λ (c : Conf). c.socket) of.Socket (λ text. text) socket_step [] o ≡ unwrap_or o []
+      by_value : (o : Option (List ℕ)) → value_or (λ (c : Options). c.socket) of.Socket (λ text. text) socket_step [] o ≡ unwrap_or o []
       by_value None = refl
       by_value (Some value) = refl

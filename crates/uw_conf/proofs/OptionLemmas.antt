@@ -1,38 +1,38 @@
 -- What each option keeps: the limits of the caches, and of the other numbers.
 use Rattle.std.proofs.Common.{◌≡◌, refl, ℕ, ◌==◌, ◌≤◌, List, length, arith, Option, Some, None, Result, Ok, Err, IfOk, IfSome}
 use Rattle.uw_model.specs.declared.conf.CacheConf.{CacheConf}
-use Rattle.uw_conf.specs.declared.conf.Conf.{Conf}
+use Rattle.uw_conf.specs.declared.conf.Options.{Options}
 use Rattle.uw_conf.specs.declared.conf.ConfKind.{ConfKind}
 use Rattle.uw_conf.specs.declared.options.OptionKind.{OptionKind}
 use Rattle.uw_conf.specs.declared.options.OptionKind.TheVariants as of
 use Rattle.uw_conf.specs.Caches.{number_in, with_cache}
-use Rattle.uw_conf.specs.Configuration.{blank_conf, option_kind, set_number, set_caches, set_option, with_option}
+use Rattle.uw_conf.specs.Reading.{blank_conf, option_kind, set_number, set_caches, set_option, with_option}
 use Rattle.uw_conf.specs.Sound.{AreCaches, HasLimits}
 use Rattle.uw_conf.proofs.SoundLemmas.{with_cache_keeps, number_in_some}
 use Rattle.uw_conf.proofs.ReadingLemmas.{ok_if}
 
 -- a number within its limits
-number_keeps : (P : Conf → Type 0) (low high : ℕ) (o : Option ℕ) (set : ℕ → Conf) → IfSome o (λ m. (low ≤ m) × (m ≤ high)) → ((n : ℕ) → (low ≤ n) × (n ≤ high) → P (set n)) → IfOk (set_number o set) P
+number_keeps : (P : Options → Type 0) (low high : ℕ) (o : Option ℕ) (set : ℕ → Options) → IfSome o (λ m. (low ≤ m) × (m ≤ high)) → ((n : ℕ) → (low ≤ n) × (n ≤ high) → P (set n)) → IfOk (set_number o set) P
 number_keeps P low high None set limits each = tt
 number_keeps P low high (Some n) set limits each = each n limits
 
 -- the caches of a configuration are within their limits
-abbrev pub HasCaches : Conf → Type 0
+abbrev pub HasCaches : Options → Type 0
 HasCaches conf = AreCaches conf.caches
 
-caches_keep : (conf : Conf) (r : Result (List CacheConf) ConfKind) → IfOk r AreCaches → IfOk (set_caches conf r) HasCaches
+caches_keep : (conf : Options) (r : Result (List CacheConf) ConfKind) → IfOk r AreCaches → IfOk (set_caches conf r) HasCaches
 caches_keep conf (Err kind) h = tt
 caches_keep conf (Ok caches) h = h
 
 -- an option keeps what it keeps whatever it is
-by_kind : (P : Conf → Type 0) (conf : Conf) (name value : List ℕ) → ((kind : OptionKind) → IfOk (set_option conf kind value) P) → IfOk (with_option conf name value) P
+by_kind : (P : Options → Type 0) (conf : Options) (name value : List ℕ) → ((kind : OptionKind) → IfOk (set_option conf kind value) P) → IfOk (with_option conf name value) P
 by_kind P conf name value each = known (option_kind name) refl
   where
     known : (kind : Option OptionKind) → option_kind name ≡ kind → IfOk (with_option conf name value) P
     known None e = rw e tt
     known (Some kind) e = rw e (each kind)
 
-caches_set : (conf : Conf) (value : List ℕ) → HasCaches conf → (kind : OptionKind) → IfOk (set_option conf kind value) HasCaches
+caches_set : (conf : Options) (value : List ℕ) → HasCaches conf → (kind : OptionKind) → IfOk (set_option conf kind value) HasCaches
 caches_set conf value h of.BufferSize = number_keeps HasCaches 1 65535 (number_in 1 65535 value) (λ n. record conf { buffer_size = n }) (number_in_some 1 65535 value) (λ n limits. h)
 caches_set conf value h of.Workers = number_keeps HasCaches 1 64 (number_in 1 64 value) (λ n. record conf { workers = n }) (number_in_some 1 64 value) (λ n limits. h)
 caches_set conf value h of.Harakiri = number_keeps HasCaches 0 86400 (number_in 0 86400 value) (λ n. record conf { harakiri = n }) (number_in_some 0 86400 value) (λ n limits. h)
@@ -41,21 +41,22 @@ caches_set conf value h of.Spoolers = number_keeps HasCaches 1 16 (number_in 1 1
 caches_set conf value h of.SpoolFreq = number_keeps HasCaches 1 3600 (number_in 1 3600 value) (λ n. record conf { spool_freq = n }) (number_in_some 1 3600 value) (λ n limits. h)
 caches_set conf value h of.Socket = ok_if HasCaches (length value == 0) _ _ tt h
 caches_set conf value h of.Cache = caches_keep conf (with_cache conf.caches value) (with_cache_keeps conf.caches value h)
+caches_set conf value h of.Rule = h
 caches_set conf value h of.NoEffect = h
 
-pub caches_kept : (conf : Conf) (name value : List ℕ) → HasCaches conf → IfOk (with_option conf name value) HasCaches
+pub caches_kept : (conf : Options) (name value : List ℕ) → HasCaches conf → IfOk (with_option conf name value) HasCaches
 caches_kept conf name value h = by_kind HasCaches conf name value (caches_set conf value h)
 
 pub no_caches : HasCaches blank_conf
 no_caches = record { each = tt; few = omega arith; names = tt; small = omega arith }
 
 -- other fields than the numbers
-limits_keep : (conf : Conf) (r : Result (List CacheConf) ConfKind) → HasLimits conf → IfOk (set_caches conf r) HasLimits
+limits_keep : (conf : Options) (r : Result (List CacheConf) ConfKind) → HasLimits conf → IfOk (set_caches conf r) HasLimits
 limits_keep conf (Err kind) h = tt
 limits_keep conf (Ok caches) h =
     record { buffer_size = h.buffer_size; workers = h.workers; harakiri = h.harakiri; expire_freq = h.expire_freq; spoolers = h.spoolers; spool_freq = h.spool_freq }
 
-limits_set : (conf : Conf) (value : List ℕ) → HasLimits conf → (kind : OptionKind) → IfOk (set_option conf kind value) HasLimits
+limits_set : (conf : Options) (value : List ℕ) → HasLimits conf → (kind : OptionKind) → IfOk (set_option conf kind value) HasLimits
 limits_set conf value h of.BufferSize =
     number_keeps HasLimits 1 65535 (number_in 1 65535 value) (λ n. record conf { buffer_size = n }) (number_in_some 1 65535 value) (λ n limits.
     record { buffer_size = limits; workers = h.workers; harakiri = h.harakiri; expire_freq = h.expire_freq; spoolers = h.spoolers; spool_freq = h.spool_freq })
@@ -76,9 +77,10 @@ limits_set conf value h of.SpoolFreq =
     record { buffer_size = h.buffer_size; workers = h.workers; harakiri = h.harakiri; expire_freq = h.expire_freq; spoolers = h.spoolers; spool_freq = limits })
 limits_set conf value h of.Socket = ok_if HasLimits (length value == 0) _ _ tt (record { buffer_size = h.buffer_size; workers = h.workers; harakiri = h.harakiri; expire_freq = h.expire_freq; spoolers = h.spoolers; spool_freq = h.spool_freq })
 limits_set conf value h of.Cache = limits_keep conf (with_cache conf.caches value) h
+limits_set conf value h of.Rule = h
 limits_set conf value h of.NoEffect = h
 
-pub limits_kept : (conf : Conf) (name value : List ℕ) → HasLimits conf → IfOk (with_option conf name value) HasLimits
+pub limits_kept : (conf : Options) (name value : List ℕ) → HasLimits conf → IfOk (with_option conf name value) HasLimits
 limits_kept conf name value h = by_kind HasLimits conf name value (limits_set conf value h)
 
 pub blank_limits : HasLimits blank_conf

@@ -1,14 +1,17 @@
 -- One line of a reading, and what each option keeps, which each line keeps and the whole text.
-use Rattle.std.proofs.Common.{◌≡◌, ℕ, ◌+◌, ◌==◌, Bool, true, false, if◌then◌else◌, List, [], ◌∷◌, length, ap, ◌∙◌, Option, Some, None, Result, Ok, Err, IfOk, nat_lt}
+use Rattle.std.proofs.Common.{◌≡◌, ℕ, ◌+◌, ◌==◌, Bool, true, false, if◌then◌else◌, List, [], ◌∷◌, length, ap, ◌∙◌, Option, Some, None, Result, Ok, Err, IfOk}
 use Rattle.std.proofs.lemmas.Result.{IfOk-at_ok}
 use Rattle.std.specs.Str.Lines.{lines}
 use Rattle.std.specs.Str.Lossy.{utf8_valid_len}
-use Rattle.uw_conf.specs.declared.conf.Conf.{Conf}
+use Rattle.uw_conf.specs.declared.conf.Options.{Options}
 use Rattle.uw_conf.specs.declared.conf.ConfFault.{ConfFault}
 use Rattle.uw_conf.specs.declared.conf.ConfKind.{ConfKind}
 use Rattle.uw_conf.specs.Lines.{Line, nothing, section, option, broken, line_of}
 use Rattle.uw_base.specs.Texts.{trimmed}
-use Rattle.uw_conf.specs.Configuration.{ReadSoFar, blank_conf, with_option, with_conf, with_setting, with_broken_line, with_line, read_line, at_line, read_lines, conf_read, most_text_bytes, configuration_of}
+use Rattle.uw_conf.specs.Reading.{ReadSoFar, blank_conf, with_option, with_conf, with_setting, with_broken_line, with_line, read_line, at_line, read_lines, blank_reading, unless_refused}
+use Rattle.uw_conf.proofs.RefusalLemmas.{conf_read}
+use Rattle.uw_conf.specs.Configuration.{configuration_of}
+use Rattle.uw_conf.proofs.RefusalLemmas.{own_says}
 
 -- a line that is taken leads to the lines behind it
 pub lines_step : (r next : ReadSoFar) (number : ℕ) (line : List ℕ) (rest all : List (List ℕ)) → all ≡ line ∷ rest → read_line r line ≡ Ok next → read_lines (Ok r) number all ≡ read_lines (Ok next) (number + 1) rest
@@ -21,11 +24,11 @@ ok_if P true x y h k = h
 ok_if P false x y h k = k
 
 -- what holds of a configuration, and goes on to hold behind each option that is taken
-module _ (P : Conf → Type 0) (options : (conf : Conf) (name value : List ℕ) → P conf → IfOk (with_option conf name value) P) where
+module _ (P : Options → Type 0) (options : (conf : Options) (name value : List ℕ) → P conf → IfOk (with_option conf name value) P) where
   abbrev Kept : {E : Type 0} → Result ReadSoFar E → Type 0
   Kept r = IfOk r (λ reading. P reading.conf)
 
-  kept_in_keeps : (r : ReadSoFar) (x : Result Conf ConfKind) → IfOk x P → Kept (with_conf r x)
+  kept_in_keeps : (r : ReadSoFar) (x : Result Options ConfKind) → IfOk x P → Kept (with_conf r x)
   kept_in_keeps r (Err kind) h = tt
   kept_in_keeps r (Ok conf) h = h
 
@@ -69,8 +72,15 @@ module _ (P : Conf → Type 0) (options : (conf : Conf) (name value : List ℕ) 
   conf_read_keeps (Ok r) h = h
 
   -- it holds of what a text says, where it holds of a configuration that says nothing
-  pub configuration_keeps : P blank_conf → (text : List ℕ) (conf : Conf) → configuration_of text ≡ Ok conf → P conf
+  pub configuration_keeps : P blank_conf → (text : List ℕ) (conf : Options) → configuration_of text ≡ Ok conf → P conf
   configuration_keeps blank text conf says =
-      let start : Result ReadSoFar ConfFault = Ok (record { inside = None; conf = blank_conf }) in
-      IfOk-at_ok P says
-      (ok_if P (nat_lt most_text_bytes (length text)) _ _ tt (conf_read_keeps (read_lines start 1 (lines text)) (read_lines_keeps start 1 (lines text) blank)))
+      let start : Result ReadSoFar ConfFault = Ok blank_reading in
+      IfOk-at_ok P (own_says text conf says) (conf_read_keeps (read_lines start 1 (lines text)) (read_lines_keeps start 1 (lines text) blank))
+
+  past : (r : ReadSoFar) (x : Result ReadSoFar ConfKind) → Kept x → P r.conf → P (unless_refused r x).conf
+  past r (Ok next) kept h = kept
+  past r (Err kind) kept h = h
+
+  -- a line that is taken, or passed where it is refused, keeps it
+  pub past_keeps : (r : ReadSoFar) (line : List ℕ) → P r.conf → P (unless_refused r (read_line r line)).conf
+  past_keeps r line h = past r (read_line r line) (read_line_keeps r line h) h

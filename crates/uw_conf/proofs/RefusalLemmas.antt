@@ -1,13 +1,24 @@
 -- The refused line of a text is its least refused line, and a text without one says what all its lines say.
+use Rattle.std.specs.Option.{option_or}
+use Rattle.std.specs.Prelude.{Option, if◌then◌else◌}
 use Rattle.std.proofs.Common.{◌≡◌, ℕ, zero, suc, ◌+◌, ◌<◌, ◌≤◌, Bool, true, false, cond, nat_lt, List, [], ◌∷◌, length, take, Some, None, Result, Ok, Err, refl, sym, ap, subst, ◌∙◌, arith}
 use Rattle.std.specs.List.{slice_get}
 use Rattle.std.proofs.lemmas.Bool.Decides.{nat_tests}
 use Rattle.std.specs.Str.Lines.{lines}
-use Rattle.uw_conf.specs.declared.conf.Conf.{Conf}
+use Rattle.uw_conf.specs.declared.conf.Options.{Options}
 use Rattle.uw_conf.specs.declared.conf.ConfFault.{ConfFault}
 use Rattle.uw_conf.specs.declared.conf.ConfKind.{ConfKind}
-use Rattle.uw_conf.specs.Configuration.{ReadSoFar, blank_reading, read_line, at_line, read_lines, conf_read, most_text_bytes, refused_at, configuration_of}
-use Rattle.uw_conf.specs.Laws.{IsLeastRefusal, reading_after, refusal, refusal_at, refusal_behind, refusal_from, unless_refused}
+use Rattle.uw_conf.specs.Reading.{ReadSoFar, blank_reading, read_line, at_line, read_lines, refused_at}
+use Rattle.uw_conf.specs.Configuration.{configuration_of, fault_of_reading, first_refused_option, least_refused, lesser_fault, most_text_bytes, unless_fault}
+use Rattle.uw_conf.specs.Routes.{cache_names_of, first_refused_rule, rule_lines_of}
+use Rattle.uw_conf.proofs.RouteLemmas.{TellsOf, rules_rise, rules_tell}
+use Rattle.uw_conf.specs.Reading.{reading_after, unless_refused}
+use Rattle.uw_conf.specs.Laws.{IsLeastRefusal, own_refusal_at, refusal, refusal_at, refusal_behind, refusal_from, rule_refusal_on}
+
+-- what a reading has read, without where it stands
+abbrev pub conf_read : Result ReadSoFar ConfFault → Result Options ConfFault
+conf_read (Err fault) = Err fault
+conf_read (Ok r) = Ok r.conf
 
 -- the place of the fault is the least at which a line is refused
 record IsLeastFrom (r : ReadSoFar) (number : ℕ) (all : List (List ℕ)) (fault : ConfFault) : Type 0 where
@@ -64,43 +75,82 @@ reading_tells r number [] = (λ place. none place, refl)
     none (suc place) = refl
 reading_tells r number (line ∷ rest) = tells_behind r number line rest (read_line r line) refl (λ next. reading_tells next (number + 1) rest)
 
--- a text within the limit, by what its reading gives
-read_of : (b : Bool) (fault : ConfFault) (x : Result Conf ConfFault) (conf : Conf) → cond b (Err fault) x ≡ Ok conf → x ≡ Ok conf
-read_of true fault x conf e = absurd (cc)
-read_of false fault x conf e = e
-
-least_of : (text : List ℕ) (fault : ConfFault) (x : Result ReadSoFar ConfFault) → Tells blank_reading 1 (lines text) x → conf_read x ≡ Err fault → IsLeastRefusal (lines text) fault
-least_of text fault (Ok last) told e = absurd (cc)
-least_of text fault (Err found) told e =
-    let same : found ≡ fault = cc in
-    let at : found.line ≡ suc told.place = omega (arith, told.line) in
-    rw (← same) (record {
-      refused = ap (λ n. refusal_at (lines text) n) at ∙ told.refused;
-      least = before;
-    })
+-- the options' own refusals, by what their reading gives
+own_tells : (all : List (List ℕ)) (x : Result ReadSoFar ConfFault) → Tells blank_reading 1 all x → TellsOf (own_refusal_at all) (fault_of_reading x)
+own_tells all (Err fault) told =
+    let at : fault.line ≡ suc told.place = omega (arith, told.line) in
+    (ap (own_refusal_at all) at ∙ told.refused, before)
   where
-    before : (number : ℕ) → number < found.line → refusal_at (lines text) number ≡ None
+    before : (number : ℕ) → number < fault.line → own_refusal_at all number ≡ None
     before zero below = refl
-    before (suc place) below = told.least place (omega (arith, told.line))
+    before (suc place) below = told.least place (let line = told.line in omega arith)
+own_tells all (Ok last) told = each
+  where
+    each : (number : ℕ) → own_refusal_at all number ≡ None
+    each zero = refl
+    each (suc place) = told.0 place
+
+-- two refusals of each line: the lesser of the least refused lines is the least
+both_tell : (one two : ℕ → Option ConfKind) (a b : Option ConfFault) → TellsOf one a → TellsOf two b → TellsOf (λ number. option_or (one number) (two number)) (lesser_fault a b)
+both_tell one two None None h k = λ number. ap (λ x. option_or x (two number)) (h number) ∙ k number
+both_tell one two None (Some b) h k = (ap (λ x. option_or x (two b.line)) (h b.line) ∙ k.0, λ number below. ap (λ x. option_or x (two number)) (h number) ∙ k.1 number below)
+both_tell one two (Some a) None h k = (ap (λ x. option_or x (two a.line)) h.0, λ number below. ap (λ x. option_or x (two number)) (h.1 number below) ∙ k number)
+both_tell one two (Some a) (Some b) h k = lesser (nat_lt b.line a.line) refl
+  where
+    lesser : (test : Bool) → nat_lt b.line a.line ≡ test → TellsOf (λ number. option_or (one number) (two number)) (if test then Some b else Some a)
+    lesser true e =
+        let below : b.line < a.line = grind (arith, nat_tests) in (
+          ap (λ x. option_or x (two b.line)) (h.1 b.line below) ∙ k.0,
+          λ number less. ap (λ x. option_or x (two number)) (h.1 number (omega arith)) ∙ k.1 number less,
+        )
+    lesser false e =
+        let above : a.line ≤ b.line = grind (arith, nat_tests) in
+        (ap (λ x. option_or x (two a.line)) h.0, λ number less. ap (λ x. option_or x (two number)) (h.1 number less) ∙ k.1 number (omega arith))
+
+-- the least refused line of a text
+least_tells : (all : List (List ℕ)) → TellsOf (refusal_at all) (least_refused all)
+least_tells all =
+    both_tell (own_refusal_at all) (rule_refusal_on (cache_names_of all) (rule_lines_of all)) (first_refused_option all)
+    (first_refused_rule (cache_names_of all) (rule_lines_of all) 0 (rule_lines_of all)) (own_tells all (read_lines (Ok blank_reading) 1 all) (reading_tells blank_reading 1 all))
+    (rules_tell (cache_names_of all) (rule_lines_of all) 0 1 (rule_lines_of all) (rules_rise blank_reading 1 all)).0
+
+-- a text within the limit, by what its lines say
+refused_of : (all : List (List ℕ)) (found : Option ConfFault) (conf : Options) (fault : ConfFault) → TellsOf (refusal_at all) found → unless_fault found conf ≡ Err fault → IsLeastRefusal all fault
+refused_of all None conf fault told e = absurd (cc)
+refused_of all (Some found) conf fault told e = let same : found ≡ fault = cc in rw (← same) (record { refused = told.0; least = told.1 })
 
 not_lt : (a b : ℕ) → b ≤ a → nat_lt a b ≡ false
 not_lt a b h = grind (arith, nat_tests)
 
-pub least_refused : (text : List ℕ) (fault : ConfFault) → length text ≤ most_text_bytes → configuration_of text ≡ Err fault → IsLeastRefusal (lines text) fault
-least_refused text fault small says =
+pub refused_is_least : (text : List ℕ) (fault : ConfFault) → length text ≤ most_text_bytes → configuration_of text ≡ Err fault → IsLeastRefusal (lines text) fault
+refused_is_least text fault small says =
     let within : nat_lt most_text_bytes (length text) ≡ false = not_lt most_text_bytes (length text) small in
-    least_of text fault (read_lines (Ok blank_reading) 1 (lines text)) (reading_tells blank_reading 1 (lines text)) (rw within at says)
+    refused_of (lines text) (least_refused (lines text)) (reading_after blank_reading (lines text)).conf fault (least_tells (lines text)) (rw within at says)
 
-none_of : (text : List ℕ) (conf : Conf) (x : Result ReadSoFar ConfFault) → Tells blank_reading 1 (lines text) x → conf_read x ≡ Ok conf
-    → ((number : ℕ) → refusal_at (lines text) number ≡ None) × (conf ≡ (reading_after blank_reading (lines text)).conf)
-none_of text conf (Err fault) told e = absurd (cc)
-none_of text conf (Ok last) told e = (each, let same : last.conf ≡ conf = cc in sym same ∙ ap (λ (r : ReadSoFar). r.conf) told.1)
-  where
-    each : (number : ℕ) → refusal_at (lines text) number ≡ None
-    each zero = refl
-    each (suc place) = told.0 place
+-- a text that is not refused has no refused line, and says what all its lines say
+said_of : (b : Bool) (fault : ConfFault) (found : Option ConfFault) (said conf : Options) → cond b (Err fault) (unless_fault found said) ≡ Ok conf → (found ≡ None) × (conf ≡ said)
+said_of true fault found said conf e = absurd (cc)
+said_of false fault None said conf e = (refl, cc)
+said_of false fault (Some other) said conf e = absurd (cc)
 
-pub none_refused : (text : List ℕ) (conf : Conf) → configuration_of text ≡ Ok conf
+pub none_refused : (text : List ℕ) (conf : Options) → configuration_of text ≡ Ok conf
     → ((number : ℕ) → refusal_at (lines text) number ≡ None) × (conf ≡ (reading_after blank_reading (lines text)).conf)
 none_refused text conf says =
-    none_of text conf (read_lines (Ok blank_reading) 1 (lines text)) (reading_tells blank_reading 1 (lines text)) (read_of (nat_lt most_text_bytes (length text)) _ _ conf says)
+    let said = said_of (nat_lt most_text_bytes (length text)) _ (least_refused (lines text)) (reading_after blank_reading (lines text)).conf conf says in
+    (subst (TellsOf (refusal_at (lines text))) said.0 (least_tells (lines text)), said.1)
+
+-- the options of a text that is not refused were read without a refusal
+own_read : (all : List (List ℕ)) (other : Option ConfFault) (x : Result ReadSoFar ConfFault) (conf : Options) → Tells blank_reading 1 all x
+    → lesser_fault (fault_of_reading x) other ≡ None → conf ≡ (reading_after blank_reading all).conf → conf_read x ≡ Ok conf
+own_read all None (Err fault) conf told none same = absurd (cc)
+own_read all (Some other) (Err fault) conf told none same = absurd (some_is_none (nat_lt other.line fault.line) none)
+  where
+    some_is_none : (test : Bool) → cond test (Some other) (Some fault) ≡ None → ⊥
+    some_is_none true e = cc
+    some_is_none false e = cc
+own_read all other (Ok last) conf told none same = ap (λ (r : ReadSoFar). Ok r.conf) told.1 ∙ sym (ap (λ (c : Options). Ok c) same)
+
+pub own_says : (text : List ℕ) (conf : Options) → configuration_of text ≡ Ok conf → conf_read (read_lines (Ok blank_reading) 1 (lines text)) ≡ Ok conf
+own_says text conf says =
+    let said = said_of (nat_lt most_text_bytes (length text)) _ (least_refused (lines text)) (reading_after blank_reading (lines text)).conf conf says in
+    own_read (lines text) _ (read_lines (Ok blank_reading) 1 (lines text)) conf (reading_tells blank_reading 1 (lines text)) said.0 said.1

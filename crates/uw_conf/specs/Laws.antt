@@ -1,6 +1,7 @@
 -- What the laws of the definitions speak of.
-use Rattle.std.specs.Prelude.{◌≡◌, ℕ, zero, suc, ◌==◌, ◌<◌, Bool, true, false, List, [], ◌∷◌, ◌++◌, length, take, map, filter, slice_get, unwrap_or, codes, Option, None, Some, Result, Ok, Err}
-use Rattle.std.specs.List.{last_or}
+use Rattle.std.specs.Prelude.{◌≡◌, ℕ, zero, suc, ◌==◌, ◌<◌, Bool, true, false, List, [], ◌∷◌, ◌++◌, length, take, map, filter, slice_get, unwrap_or, codes, Option, None, Some, option_and_then, option_map, Result, Ok, Err}
+use Rattle.std.specs.List.{last_or, position_from}
+use Rattle.std.specs.Option.{option_or}
 use Rattle.std.specs.Str.{bytes_eq}
 use Rattle.std.specs.Str.Lines.{lines}
 use Rattle.std.specs.Str.Lossy.{utf8_valid_len}
@@ -11,19 +12,13 @@ use Rattle.uw_conf.specs.Lines.{Line, nothing, section, option, broken, line_of}
 use Rattle.uw_base.specs.Texts.{trimmed}
 use Rattle.uw_conf.specs.declared.options.OptionKind.{OptionKind}
 use Rattle.uw_conf.specs.declared.options.OptionKind.TheVariants as of
-use Rattle.uw_conf.specs.Configuration.{ReadSoFar, blank_reading, option_kind, read_line}
+use Rattle.uw_rules.specs.declared.lines.RuleLine.{RuleLine}
+use Rattle.uw_rules.specs.Rules.{rule_refusal_at}
+use Rattle.uw_conf.specs.declared.conf.ConfKind.TheVariants as kinds
+use Rattle.uw_conf.specs.Reading.{ReadSoFar, blank_reading, option_kind, read_line, reading_after}
+use Rattle.uw_conf.specs.Routes.{cache_names_of, rule_lines_of}
 
 -- ---- the least refused line
-
--- a reading after a line: a refused line defines nothing
-abbrev pub unless_refused : ReadSoFar → Result ReadSoFar ConfKind → ReadSoFar
-unless_refused r (Ok next) = next
-unless_refused r (Err kind) = r
-
--- a reading after lines
-abbrev pub reading_after : ReadSoFar → List (List ℕ) → ReadSoFar
-reading_after r [] = r
-reading_after r (line ∷ lines) = reading_after (unless_refused r (read_line r line)) lines
 
 -- why a line is refused, if it is
 abbrev pub refusal : Result ReadSoFar ConfKind → Option ConfKind
@@ -39,10 +34,19 @@ refusal_behind r (Some line) = refusal (read_line r line)
 abbrev pub refusal_from : ReadSoFar → List (List ℕ) → ℕ → Option ConfKind
 refusal_from r lines place = refusal_behind (reading_after r (take place lines)) (slice_get lines place)
 
--- why the line of a number is refused, where lines are counted from 1
+-- why the line of a number is refused by itself, where lines are counted from 1
+abbrev pub own_refusal_at : List (List ℕ) → ℕ → Option ConfKind
+own_refusal_at lines zero = None
+own_refusal_at lines (suc before) = refusal_from blank_reading lines before
+
+-- why the rule of a line is refused in its table, if the line is a rule's and it is
+abbrev pub rule_refusal_on : List (List ℕ) → List RuleLine → ℕ → Option ConfKind
+rule_refusal_on names rules number =
+    option_map kinds.Rule (option_and_then (λ place. rule_refusal_at names rules place false) (position_from (λ (rule : RuleLine). rule.line == number) 0 rules))
+
+-- why the line of a number is refused: by itself, or as a rule of the table
 abbrev pub refusal_at : List (List ℕ) → ℕ → Option ConfKind
-refusal_at lines zero = None
-refusal_at lines (suc before) = refusal_from blank_reading lines before
+refusal_at lines number = option_or (own_refusal_at lines number) (rule_refusal_on (cache_names_of lines) (rule_lines_of lines) number)
 
 -- the line of the fault is refused for its kind, and none before it is refused
 pub record IsLeastRefusal (lines : List (List ℕ)) (fault : ConfFault) : Type 0 where
@@ -88,6 +92,7 @@ kind_number of.SpoolFreq = 5
 kind_number of.Socket = 6
 kind_number of.Cache = 7
 kind_number of.NoEffect = 8
+kind_number of.Rule = 9
 
 -- a name is that of the option
 abbrev pub is_kind : OptionKind → Option OptionKind → Bool

@@ -1,8 +1,11 @@
 pub mod Lines
 pub mod Sizes
 pub mod Caches
+pub mod Reading
+pub mod Routes
 pub mod Configuration
 pub mod Given
 pub mod Sound
 pub mod ReadingSteps
 pub mod Laws
+pub mod DecidingSteps

@@ -1,5 +1,5 @@
 -- The steps of a reading: what the code's values stand for, and what each step gives.
-use Rattle.std.specs.Prelude.{◌≡◌, ℕ, ◌%◌, ◌≤◌, List, Option, None, Some, IfSome, Result, Ok, Err}
+use Rattle.std.specs.Prelude.{◌≡◌, ℕ, ◌%◌, ◌≤◌, ◌++◌, List, Option, None, Some, IfSome, Result, Ok, Err}
 use Rattle.std.specs.Borrow.{Bor}
 use Rattle.uw_conf.specs.declared.conf.ConfKind.{ConfKind}
 use Rattle.uw_conf.specs.declared.lines.LineKind.{LineKind}
@@ -10,7 +10,13 @@ use Rattle.uw_conf.specs.declared.refusal.Refusal.{Refusal}
 use Rattle.uw_conf.specs.declared.refusal.Refusal.TheVariants as refusals
 use Rattle.uw_conf.specs.Lines.{Line, nothing, section, option, broken}
 use Rattle.uw_conf.specs.Caches.{Draft}
-use Rattle.uw_conf.specs.Configuration.{ReadSoFar}
+use Rattle.uw_rules.specs.declared.lines.RuleLine.{RuleLine}
+use Rattle.uw_conf.specs.declared.conf.ConfFault.{ConfFault}
+use Rattle.uw_conf.specs.declared.reading.Walk.{Walk}
+use Rattle.std.specs.Option.{option_or}
+use Rattle.uw_conf.specs.Configuration.{first_refused_option}
+use Rattle.uw_conf.specs.Reading.{ReadSoFar, blank_reading, read_line, reading_after, refused_at, unless_refused}
+use Rattle.uw_conf.specs.Routes.{rule_in, rule_lines_of}
 
 -- a line
 abbrev pub line_seen : LineKind → Line
@@ -56,15 +62,38 @@ GivesValue (Ok value) defined = defined ≡ Ok value
 GivesValue (Err (refusals.Refused kind)) defined = defined ≡ Err kind
 GivesValue (Err refusals.Memory) defined = Unit {0}
 
+-- a step within a line makes the defined value of one before it; or it changes nothing, and gives the defined kind of refusal
+abbrev pub Makes : {T U : Type 0} → T → T → Result U Refusal → Result T ConfKind → Type 0
+Makes before now (Ok done) defined = defined ≡ Ok now
+Makes before now (Err (refusals.Refused kind)) defined = (defined ≡ Err kind) × (now ≡ before)
+Makes before now (Err refusals.Memory) defined = Unit {0}
+
 -- a reading
 abbrev pub progress_seen : Progress → ReadSoFar
 progress_seen progress = record {
   inside = progress.inside;
-  conf = progress.conf;
+  conf = progress.options;
 }
 
--- a line gives the defined reading, or the defined kind of refusal
-abbrev pub GivesProgress : Result Progress Refusal → Result ReadSoFar ConfKind → Type 0
-GivesProgress (Ok progress) defined = defined ≡ Ok (progress_seen progress)
-GivesProgress (Err (refusals.Refused kind)) defined = defined ≡ Err kind
-GivesProgress (Err refusals.Memory) defined = Unit {0}
+-- unless memory is wanted, a step puts these rules behind those before it
+abbrev pub PutsRules : {U : Type 0} → Progress → Progress → Result U Refusal → List RuleLine → Type 0
+PutsRules before now (Ok done) rules = now.rules ≡ before.rules ++ rules
+PutsRules before now (Err (refusals.Refused kind)) rules = now.rules ≡ before.rules ++ rules
+PutsRules before now (Err refusals.Memory) rules = Unit {0}
+
+-- the fault of a line with a number, if it is refused
+abbrev pub fault_of_line : ℕ → Result ReadSoFar ConfKind → Option ConfFault
+fault_of_line number (Ok r) = None
+fault_of_line number (Err kind) = Some (refused_at number kind)
+
+-- a walk behind one more line: past it where it is refused, with its rule, and with its fault where it is the first
+pub record StepsOver (number : ℕ) (line : List ℕ) (before now : Walk) : Type 0 where
+  pub reading : progress_seen now.progress ≡ unless_refused (progress_seen before.progress) (read_line (progress_seen before.progress) line)
+  pub rules : now.progress.rules ≡ before.progress.rules ++ rule_in before.progress.inside number line
+  pub fault : now.fault ≡ option_or before.fault (fault_of_line number (read_line (progress_seen before.progress) line))
+
+-- a walk over all lines
+pub record WalksOver (lines : List (List ℕ)) (walk : Walk) : Type 0 where
+  pub reading : progress_seen walk.progress ≡ reading_after blank_reading lines
+  pub rules : walk.progress.rules ≡ rule_lines_of lines
+  pub fault : walk.fault ≡ first_refused_option lines

@@ -3,7 +3,7 @@ use Rattle.std.specs.Prelude.{◌≢◌, ◌≤◌, List, [], ◌∷◌, length}
 use Rattle.std.specs.List.{AllByRecursion}
 use Rattle.uw_model.specs.declared.conf.CacheConf.{CacheConf}
 use Rattle.uw_model.specs.Entries.{IsCacheConf}
-use Rattle.uw_conf.specs.declared.conf.Conf.{Conf}
+use Rattle.uw_conf.specs.declared.conf.Options.{Options}
 use Rattle.uw_conf.specs.Caches.{region_bytes, most_region_bytes}
 
 -- no two caches have one name
@@ -19,7 +19,7 @@ pub record AreCaches (caches : List CacheConf) : Type 0 where
   pub small : region_bytes caches ≤ most_region_bytes
 
 -- each number of a configuration lies within its limits
-pub record HasLimits (conf : Conf) : Type 0 where
+pub record HasLimits (conf : Options) : Type 0 where
   pub buffer_size : (1 ≤ conf.buffer_size) × (conf.buffer_size ≤ 65535)
   pub workers : (1 ≤ conf.workers) × (conf.workers ≤ 64)
   pub harakiri : conf.harakiri ≤ 86400

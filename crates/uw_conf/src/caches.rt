@@ -4,7 +4,7 @@ ghost use Rattle.std.specs.List.{list_any};
 ghost use Rattle.std.specs.Str.{bytes_eq};
 ghost use Rattle.uw_model.specs.declared.conf.CacheConf.{CacheConf};
 ghost use Rattle.uw_model.specs.Entries.{IsCacheConf};
-ghost use Rattle.uw_conf.specs.ReadingSteps.{GivesValue};
+ghost use Rattle.uw_conf.specs.ReadingSteps.{Makes};
 ghost use Rattle.uw_conf.specs.Caches.{conf_of, with_cache_conf, with_draft, with_cache};
 ghost use Rattle.uw_conf.specs.ReadingSteps.{draft_seen};
 ghost use Rattle.uw_conf.specs.Sound.{AreCaches};
@@ -68,14 +68,10 @@ fn has_name(caches: &[CacheConf], name: &[u8]) -> bool
 }
 
 // A cache behind the earlier ones.
-fn with_cache_conf(
-    alloc: Global,
-    caches: CacheConfList,
-    conf: CacheConf,
-) -> Result<CacheConfList, Refusal>
-    requires caches { AreCaches caches }
+fn add_cache_conf(alloc: Global, caches: &mut CacheConfList, conf: CacheConf) -> Result<(), Refusal>
+    requires caches { AreCaches caches.old }
     requires conf { IsCacheConf conf }
-    ensures { GivesValue result (with_cache_conf caches conf) }
+    ensures { Makes caches.old caches.new result (with_cache_conf caches.old conf) }
 {
     if has_name(caches.as_slice(), conf.name.as_slice()) {
         return Err(Refusal::Refused(ConfKind::NameTwice));
@@ -87,21 +83,20 @@ fn with_cache_conf(
             limit: MOST_REGION_BYTES,
         }));
     }
-    let mut caches = caches;
     caches.push(alloc, conf)?;
-    Ok(caches)
+    Ok(())
 }
 
 // The cache of a draft, behind the earlier ones.
-fn with_draft(
+fn add_draft(
     alloc: Global,
-    caches: CacheConfList,
+    caches: &mut CacheConfList,
     draft: &CacheDraft<'_>,
-) -> Result<CacheConfList, Refusal>
-    requires caches { AreCaches caches }
+) -> Result<(), Refusal>
+    requires caches { AreCaches caches.old }
     requires draft { IsDraft (draft_seen draft.now) }
-    ensures { GivesValue result
-        (with_draft caches (draft_seen draft.now) (draft_seen draft.now).name (draft_seen draft.now).items) }
+    ensures { Makes caches.old caches.new result
+        (with_draft caches.old (draft_seen draft.now) (draft_seen draft.now).name (draft_seen draft.now).items) }
 {
     let Some(name) = draft.name else {
         return Err(Refusal::Refused(ConfKind::Missing));
@@ -110,17 +105,14 @@ fn with_draft(
         return Err(Refusal::Refused(ConfKind::Missing));
     };
     let conf = conf_of(alloc, draft, name, items)?;
-    with_cache_conf(alloc, caches, conf)
+    add_cache_conf(alloc, caches, conf)
 }
 
-/// The caches with that of a line behind them. All its pairs are looked at; the 17th cache is a bad value.
-pub fn with_cache(
-    alloc: Global,
-    caches: CacheConfList,
-    text: &[u8],
-) -> Result<CacheConfList, Refusal>
-    requires { AreCaches caches }
-    ensures { GivesValue result (with_cache caches text.now) }
+/// Puts the cache of a line behind the others, or says why the line is refused and changes nothing. All its pairs are
+/// looked at; the 17th cache is a bad value.
+pub fn add_cache_line(alloc: Global, caches: &mut CacheConfList, text: &[u8]) -> Result<(), Refusal>
+    requires { AreCaches caches.old }
+    ensures { Makes caches.old caches.new result (with_cache caches.old text.now) }
 {
     let draft = draft_of(text);
     if draft.unknown {
@@ -129,5 +121,5 @@ pub fn with_cache(
     if draft.bad || MOST_CACHES <= caches.len() {
         return Err(Refusal::Refused(ConfKind::BadValue));
     }
-    with_draft(alloc, caches, &draft)
+    add_draft(alloc, caches, &draft)
 }

@@ -1,6 +1,23 @@
 // What a configuration says, and why a line is refused.
-use uw_base::Bytes;
+ghost use Rattle.std.specs.Prelude.{◌≡◌};
+ghost use Rattle.uw_conf.specs.Given.{options_in};
+
+use uw_base::{Bytes, Memory};
 use uw_model::CacheConfList;
+use uw_rules::{RuleKind, RuleTable};
+
+/// What the options of a configuration say, without its rules.
+#[derive(Drop)]
+pub struct Options {
+    pub buffer_size: u32,
+    pub workers: u32,
+    pub harakiri: u64,
+    pub expire_freq: u64,
+    pub spoolers: u32,
+    pub spool_freq: u64,
+    pub socket: Bytes,
+    pub caches: CacheConfList,
+}
 
 /// What a configuration says.
 #[derive(Drop)]
@@ -21,6 +38,28 @@ pub struct Conf {
     pub socket: Bytes,
     /// The caches, at most 16.
     pub caches: CacheConfList,
+    /// The rules of requests.
+    pub routes: RuleTable,
+}
+
+impl Options {
+    /// The configuration of these options and rules.
+    pub fn with_routes(self, routes: RuleTable) -> Conf
+        ensures options { options_in result ≡ self }
+        ensures routes { result.routes ≡ routes }
+    {
+        Conf {
+            buffer_size: self.buffer_size,
+            workers: self.workers,
+            harakiri: self.harakiri,
+            expire_freq: self.expire_freq,
+            spoolers: self.spoolers,
+            spool_freq: self.spool_freq,
+            socket: self.socket,
+            caches: self.caches,
+            routes,
+        }
+    }
 }
 
 /// Why a line is refused.
@@ -38,6 +77,8 @@ pub enum ConfKind {
     NameTwice,
     /// All regions so far take more bytes than the limit; or, of line 0, the text does.
     TooLarge { bytes: u64, limit: u64 },
+    /// A rule is refused.
+    Rule(RuleKind),
 }
 
 /// A refused line, counted from 1; line 0 stands for the whole text.
@@ -53,4 +94,14 @@ pub enum ConfError {
     Refused(ConfFault),
     /// No memory was left.
     Memory,
+}
+
+impl From<Memory> for ConfError {
+    ghost use Rattle.uw_conf.specs.declared.conf.ConfError.TheVariants as errors;
+
+    ghost from_gives = { λ _ error. error ≡ errors.Memory };
+
+    fn from(_: Memory) -> ConfError {
+        ConfError::Memory
+    }
 }

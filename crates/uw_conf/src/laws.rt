@@ -3,28 +3,29 @@ ghost use Rattle.std.specs.Prelude.{◌≡◌, ℕ, ◌≤◌, ◌++◌, List, [
 ghost use Rattle.std.specs.List.{AllByRecursion};
 ghost use Rattle.std.specs.Str.Lines.{lines};
 ghost use Rattle.uw_model.specs.Entries.{IsCacheConf};
-ghost use Rattle.uw_conf.specs.declared.conf.Conf.{Conf};
+ghost use Rattle.uw_conf.specs.declared.conf.Options.{Options};
 ghost use Rattle.uw_conf.specs.Caches.{blank_draft, conf_of, region_bytes, most_region_bytes};
 ghost use Rattle.uw_conf.specs.declared.conf.ConfFault.{ConfFault};
 ghost use Rattle.uw_conf.specs.declared.options.OptionKind.TheVariants as of;
-ghost use Rattle.uw_conf.specs.Configuration.{blank_reading, conf_read, configuration_of, most_text_bytes, read_lines};
-ghost use Rattle.uw_conf.specs.Laws.{IsLeastRefusal, IsPlainLine, last_value, number_or, reading_after, refusal_at, settings_of};
+ghost use Rattle.uw_conf.specs.Configuration.{configuration_of, most_text_bytes, said_by};
+ghost use Rattle.uw_conf.specs.Laws.{IsLeastRefusal, IsPlainLine, last_value, number_or, refusal_at, settings_of};
+ghost use Rattle.uw_conf.specs.Reading.{blank_reading, reading_after};
 ghost use Rattle.uw_conf.specs.Sizes.{region_words};
 ghost use Rattle.uw_conf.specs.Sound.{HasLimits, HaveOwnNames};
 
 /// A text that is not refused defines at most 16 caches, each with its numbers within their limits and with a name of its
 /// own, and their regions together are within theirs.
 pub fn caches_are_within_their_limits()
-    ensures each { (text : List ℕ) (conf : Conf) → configuration_of text ≡ Ok conf → AllByRecursion IsCacheConf conf.caches }
-    ensures few { (text : List ℕ) (conf : Conf) → configuration_of text ≡ Ok conf → length conf.caches ≤ 16 }
-    ensures names { (text : List ℕ) (conf : Conf) → configuration_of text ≡ Ok conf → HaveOwnNames conf.caches }
-    ensures small { (text : List ℕ) (conf : Conf) → configuration_of text ≡ Ok conf
+    ensures each { (text : List ℕ) (conf : Options) → configuration_of text ≡ Ok conf → AllByRecursion IsCacheConf conf.caches }
+    ensures few { (text : List ℕ) (conf : Options) → configuration_of text ≡ Ok conf → length conf.caches ≤ 16 }
+    ensures names { (text : List ℕ) (conf : Options) → configuration_of text ≡ Ok conf → HaveOwnNames conf.caches }
+    ensures small { (text : List ℕ) (conf : Options) → configuration_of text ≡ Ok conf
         → region_bytes conf.caches ≤ most_region_bytes }
 {}
 
 /// A text that is not refused leaves each other number within its limits, whether it says the number or not.
 pub fn numbers_are_within_their_limits()
-    ensures { (text : List ℕ) (conf : Conf) → configuration_of text ≡ Ok conf → HasLimits conf }
+    ensures { (text : List ℕ) (conf : Options) → configuration_of text ≡ Ok conf → HasLimits conf }
 {}
 
 /// A cache of 20,000 items for which nothing else is said takes this many words.
@@ -37,27 +38,27 @@ pub fn default_cache_has_its_words()
 pub fn refused_line_is_the_least()
     ensures refused { (text : List ℕ) (fault : ConfFault) → length text ≤ most_text_bytes → configuration_of text ≡ Err fault
         → IsLeastRefusal (lines text) fault }
-    ensures none { (text : List ℕ) (conf : Conf) (number : ℕ) → configuration_of text ≡ Ok conf → refusal_at (lines text) number ≡ None }
-    ensures says { (text : List ℕ) (conf : Conf) → configuration_of text ≡ Ok conf
+    ensures none { (text : List ℕ) (conf : Options) (number : ℕ) → configuration_of text ≡ Ok conf → refusal_at (lines text) number ≡ None }
+    ensures says { (text : List ℕ) (conf : Options) → configuration_of text ≡ Ok conf
         → conf ≡ (reading_after blank_reading (lines text)).conf }
 {}
 
 /// An option that holds one number or text counts by its last line in the section, and has its default where there is
 /// none.
 pub fn options_count_by_their_last_line()
-    ensures buffer_size { (text : List ℕ) (conf : Conf) → configuration_of text ≡ Ok conf
+    ensures buffer_size { (text : List ℕ) (conf : Options) → configuration_of text ≡ Ok conf
         → conf.buffer_size ≡ number_or 4096 (last_value of.BufferSize (settings_of text)) }
-    ensures workers { (text : List ℕ) (conf : Conf) → configuration_of text ≡ Ok conf
+    ensures workers { (text : List ℕ) (conf : Options) → configuration_of text ≡ Ok conf
         → conf.workers ≡ number_or 1 (last_value of.Workers (settings_of text)) }
-    ensures harakiri { (text : List ℕ) (conf : Conf) → configuration_of text ≡ Ok conf
+    ensures harakiri { (text : List ℕ) (conf : Options) → configuration_of text ≡ Ok conf
         → conf.harakiri ≡ number_or 0 (last_value of.Harakiri (settings_of text)) }
-    ensures expire_freq { (text : List ℕ) (conf : Conf) → configuration_of text ≡ Ok conf
+    ensures expire_freq { (text : List ℕ) (conf : Options) → configuration_of text ≡ Ok conf
         → conf.expire_freq ≡ number_or 3 (last_value of.ExpireFreq (settings_of text)) }
-    ensures spoolers { (text : List ℕ) (conf : Conf) → configuration_of text ≡ Ok conf
+    ensures spoolers { (text : List ℕ) (conf : Options) → configuration_of text ≡ Ok conf
         → conf.spoolers ≡ number_or 1 (last_value of.Spoolers (settings_of text)) }
-    ensures spool_freq { (text : List ℕ) (conf : Conf) → configuration_of text ≡ Ok conf
+    ensures spool_freq { (text : List ℕ) (conf : Options) → configuration_of text ≡ Ok conf
         → conf.spool_freq ≡ number_or 30 (last_value of.SpoolFreq (settings_of text)) }
-    ensures socket { (text : List ℕ) (conf : Conf) → configuration_of text ≡ Ok conf
+    ensures socket { (text : List ℕ) (conf : Options) → configuration_of text ≡ Ok conf
         → conf.socket ≡ unwrap_or (last_value of.Socket (settings_of text)) [] }
 {}
 
@@ -66,5 +67,5 @@ pub fn options_count_by_their_last_line()
 pub fn lines_of_other_sections_change_nothing()
     ensures { (front others more back : List (List ℕ)) → (reading_after blank_reading front).inside ≡ Some false
         → AllByRecursion IsPlainLine others → AllByRecursion IsPlainLine more → length others ≡ length more
-        → conf_read (read_lines (Ok blank_reading) 1 (front ++ others ++ back)) ≡ conf_read (read_lines (Ok blank_reading) 1 (front ++ more ++ back)) }
+        → said_by (front ++ others ++ back) ≡ said_by (front ++ more ++ back) }
 {}

@@ -1,8 +1,9 @@
-//! The configuration: what a text of options says, or its first refused line.
+//! The configuration: what a text of options and rules says, or its least refused line.
 #![tactic(auto)]
 
 mod caches;
 pub mod conf;
+mod deciding;
 mod draft;
 pub mod laws;
 mod lines;
@@ -12,8 +13,8 @@ mod refusal;
 mod sizes;
 mod values;
 
-pub use conf::{Conf, ConfError, ConfFault, ConfKind};
-pub use reading::read_conf;
+pub use conf::{Conf, ConfError, ConfFault, ConfKind, Options};
+pub use deciding::read_conf;
 pub use sizes::region_words;
 
 #[cfg(test)]

@@ -1,5 +1,5 @@
 // The lines of a text, and what each of them is.
-ghost use Rattle.std.specs.Prelude.{◌≡◌, ◌<◌, ◌==◌, ◌∷◌, [], length, IfSome, MatchOption};
+ghost use Rattle.std.specs.Prelude.{◌≡◌, ◌<◌, ◌≤◌, ◌==◌, ◌∷◌, [], length, IfSome, MatchOption};
 ghost use Rattle.std.specs.Str.Lines.{lines, strip_carriage_return};
 ghost use Rattle.std.specs.Str.Lossy.{utf8_valid_len};
 ghost use Rattle.uw_conf.specs.Lines.{line_of, option_line, parted};
@@ -34,6 +34,7 @@ fn without_return(line: &[u8]) -> &[u8]
 pub fn next_line(text: &[u8]) -> Option<(&[u8], &[u8])>
     ensures line { MatchOption result (lines text.now ≡ []) (λ r. lines text.now ≡ r.0.now ∷ lines r.1.now) }
     ensures shorter { IfSome result (λ r. length r.1.now < length text.now) }
+    ensures within { IfSome result (λ r. length r.0.now ≤ length text.now) }
 {
     let (line, rest) = cut(text, b'\n');
     match rest {

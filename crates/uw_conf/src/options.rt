@@ -1,18 +1,20 @@
 // The options of the section.
 ghost use Rattle.std.specs.Prelude.{◌≡◌, ◌==◌, if◌then◌else◌, length, Ok, Err};
-ghost use Rattle.uw_conf.specs.ReadingSteps.{GivesValue};
+ghost use Rattle.uw_conf.specs.ReadingSteps.{Makes};
 ghost use Rattle.uw_conf.specs.Caches.{number_in, with_cache};
-ghost use Rattle.uw_conf.specs.Configuration.{is_passed_over, option_kind, set_caches, set_number, set_option, with_option};
+ghost use Rattle.uw_conf.specs.Reading.{is_passed_over, option_kind, set_caches, set_number, set_option, with_option};
 ghost use Rattle.uw_conf.specs.Sound.{AreCaches};
 ghost use Rattle.uw_conf.specs.declared.conf.ConfKind.TheVariants as kinds;
 
-use crate::caches::with_cache;
+use crate::ConfKind;
+use crate::caches::add_cache_line;
+use crate::conf::Options;
 use crate::refusal::Refusal;
 use crate::values::number_in;
-use crate::{Conf, ConfKind};
 use std::alloc::Global;
 use uw_base::Bytes;
 use uw_base::texts::{is, is_any};
+use uw_rules::is_rule_option;
 
 /// What an option of the section says.
 #[derive(Clone, Copy, Debug, PartialEq, Eq)]
@@ -25,92 +27,94 @@ pub enum OptionKind {
     SpoolFreq,
     Socket,
     Cache,
+    /// A rule, which says nothing of the other options.
+    Rule,
     /// Taken with any value, and without effect.
     NoEffect,
 }
 
-fn with_buffer_size(conf: Conf, value: &[u8]) -> Result<Conf, Refusal>
-    ensures { GivesValue result (set_number (number_in 1 65535 value.now) (λ n. record conf { buffer_size = n })) }
+fn set_buffer_size(options: &mut Options, value: &[u8]) -> Result<(), Refusal>
+    ensures { Makes options.old options.new result
+        (set_number (number_in 1 65535 value.now) (λ n. record options.old { buffer_size = n })) }
 {
     let Some(number) = number_in(1, 65_535, value) else {
         return Err(Refusal::Refused(ConfKind::BadValue));
     };
-    let mut conf = conf;
-    conf.buffer_size = number as u32;
-    Ok(conf)
+    options.buffer_size = number as u32;
+    Ok(())
 }
 
-fn with_workers(conf: Conf, value: &[u8]) -> Result<Conf, Refusal>
-    ensures { GivesValue result (set_number (number_in 1 64 value.now) (λ n. record conf { workers = n })) }
+fn set_workers(options: &mut Options, value: &[u8]) -> Result<(), Refusal>
+    ensures { Makes options.old options.new result
+        (set_number (number_in 1 64 value.now) (λ n. record options.old { workers = n })) }
 {
     let Some(number) = number_in(1, 64, value) else {
         return Err(Refusal::Refused(ConfKind::BadValue));
     };
-    let mut conf = conf;
-    conf.workers = number as u32;
-    Ok(conf)
+    options.workers = number as u32;
+    Ok(())
 }
 
-fn with_harakiri(conf: Conf, value: &[u8]) -> Result<Conf, Refusal>
-    ensures { GivesValue result (set_number (number_in 0 86400 value.now) (λ n. record conf { harakiri = n })) }
+fn set_harakiri(options: &mut Options, value: &[u8]) -> Result<(), Refusal>
+    ensures { Makes options.old options.new result
+        (set_number (number_in 0 86400 value.now) (λ n. record options.old { harakiri = n })) }
 {
     let Some(number) = number_in(0, 86_400, value) else {
         return Err(Refusal::Refused(ConfKind::BadValue));
     };
-    let mut conf = conf;
-    conf.harakiri = number;
-    Ok(conf)
+    options.harakiri = number;
+    Ok(())
 }
 
-fn with_expire_freq(conf: Conf, value: &[u8]) -> Result<Conf, Refusal>
-    ensures { GivesValue result (set_number (number_in 1 3600 value.now) (λ n. record conf { expire_freq = n })) }
+fn set_expire_freq(options: &mut Options, value: &[u8]) -> Result<(), Refusal>
+    ensures { Makes options.old options.new result
+        (set_number (number_in 1 3600 value.now) (λ n. record options.old { expire_freq = n })) }
 {
     let Some(number) = number_in(1, 3_600, value) else {
         return Err(Refusal::Refused(ConfKind::BadValue));
     };
-    let mut conf = conf;
-    conf.expire_freq = number;
-    Ok(conf)
+    options.expire_freq = number;
+    Ok(())
 }
 
-fn with_spoolers(conf: Conf, value: &[u8]) -> Result<Conf, Refusal>
-    ensures { GivesValue result (set_number (number_in 1 16 value.now) (λ n. record conf { spoolers = n })) }
+fn set_spoolers(options: &mut Options, value: &[u8]) -> Result<(), Refusal>
+    ensures { Makes options.old options.new result
+        (set_number (number_in 1 16 value.now) (λ n. record options.old { spoolers = n })) }
 {
     let Some(number) = number_in(1, 16, value) else {
         return Err(Refusal::Refused(ConfKind::BadValue));
     };
-    let mut conf = conf;
-    conf.spoolers = number as u32;
-    Ok(conf)
+    options.spoolers = number as u32;
+    Ok(())
 }
 
-fn with_spool_freq(conf: Conf, value: &[u8]) -> Result<Conf, Refusal>
-    ensures { GivesValue result (set_number (number_in 1 3600 value.now) (λ n. record conf { spool_freq = n })) }
+fn set_spool_freq(options: &mut Options, value: &[u8]) -> Result<(), Refusal>
+    ensures { Makes options.old options.new result
+        (set_number (number_in 1 3600 value.now) (λ n. record options.old { spool_freq = n })) }
 {
     let Some(number) = number_in(1, 3_600, value) else {
         return Err(Refusal::Refused(ConfKind::BadValue));
     };
-    let mut conf = conf;
-    conf.spool_freq = number;
-    Ok(conf)
+    options.spool_freq = number;
+    Ok(())
 }
 
-fn with_socket(alloc: Global, conf: Conf, value: &[u8]) -> Result<Conf, Refusal>
-    ensures { GivesValue result (if length value.now == 0 then Err kinds.BadValue else Ok (record conf { socket = value.now })) }
+fn set_socket(alloc: Global, options: &mut Options, value: &[u8]) -> Result<(), Refusal>
+    ensures { Makes options.old options.new result
+        (if length value.now == 0 then Err kinds.BadValue else Ok (record options.old { socket = value.now })) }
 {
     if value.is_empty() {
         return Err(Refusal::Refused(ConfKind::BadValue));
     }
-    let socket = Bytes::from_slice(alloc, value)?;
-    Ok(Conf { socket, ..conf })
+    options.socket = Bytes::from_slice(alloc, value)?;
+    Ok(())
 }
 
-fn with_cache2(alloc: Global, conf: Conf, value: &[u8]) -> Result<Conf, Refusal>
-    requires { AreCaches conf.caches }
-    ensures { GivesValue result (set_caches conf (with_cache conf.caches value.now)) }
+fn add_cache(alloc: Global, options: &mut Options, value: &[u8]) -> Result<(), Refusal>
+    requires { AreCaches options.old.caches }
+    ensures { Makes options.old options.new result (set_caches options.old (with_cache options.old.caches value.now)) }
 {
-    let caches = with_cache(alloc, conf.caches, value)?;
-    Ok(Conf { caches, ..conf })
+    add_cache_line(alloc, &mut options.caches, value)
 }
 
 // Options that are taken with any value, and have no effect.
@@ -171,6 +175,9 @@ fn option_kind(name: &[u8]) -> Option<OptionKind>
     if is(name, b"cache2") {
         return Some(OptionKind::Cache);
     }
+    if is_rule_option(name) {
+        return Some(OptionKind::Rule);
+    }
     if is_passed_over(name) {
         return Some(OptionKind::NoEffect);
     }
@@ -178,30 +185,40 @@ fn option_kind(name: &[u8]) -> Option<OptionKind>
 }
 
 // An option with its value.
-fn set_option(alloc: Global, conf: Conf, kind: OptionKind, value: &[u8]) -> Result<Conf, Refusal>
-    requires { AreCaches conf.caches }
-    ensures { GivesValue result (set_option conf kind value.now) }
+fn set_option(
+    alloc: Global,
+    options: &mut Options,
+    kind: OptionKind,
+    value: &[u8],
+) -> Result<(), Refusal>
+    requires { AreCaches options.old.caches }
+    ensures { Makes options.old options.new result (set_option options.old kind value.now) }
 {
     match kind {
-        OptionKind::BufferSize => with_buffer_size(conf, value),
-        OptionKind::Workers => with_workers(conf, value),
-        OptionKind::Harakiri => with_harakiri(conf, value),
-        OptionKind::ExpireFreq => with_expire_freq(conf, value),
-        OptionKind::Spoolers => with_spoolers(conf, value),
-        OptionKind::SpoolFreq => with_spool_freq(conf, value),
-        OptionKind::Socket => with_socket(alloc, conf, value),
-        OptionKind::Cache => with_cache2(alloc, conf, value),
-        OptionKind::NoEffect => Ok(conf),
+        OptionKind::BufferSize => set_buffer_size(options, value),
+        OptionKind::Workers => set_workers(options, value),
+        OptionKind::Harakiri => set_harakiri(options, value),
+        OptionKind::ExpireFreq => set_expire_freq(options, value),
+        OptionKind::Spoolers => set_spoolers(options, value),
+        OptionKind::SpoolFreq => set_spool_freq(options, value),
+        OptionKind::Socket => set_socket(alloc, options, value),
+        OptionKind::Cache => add_cache(alloc, options, value),
+        OptionKind::Rule | OptionKind::NoEffect => Ok(()),
     }
 }
 
-/// One option with its value, or why it is refused.
-pub fn with_option(alloc: Global, conf: Conf, name: &[u8], value: &[u8]) -> Result<Conf, Refusal>
-    requires { AreCaches conf.caches }
-    ensures { GivesValue result (with_option conf name.now value.now) }
+/// Takes one option with its value, or says why it is refused and changes nothing.
+pub fn take_option(
+    alloc: Global,
+    options: &mut Options,
+    name: &[u8],
+    value: &[u8],
+) -> Result<(), Refusal>
+    requires { AreCaches options.old.caches }
+    ensures { Makes options.old options.new result (with_option options.old name.now value.now) }
 {
     match option_kind(name) {
-        Some(kind) => set_option(alloc, conf, kind, value),
+        Some(kind) => set_option(alloc, options, kind, value),
         None => Err(Refusal::Refused(ConfKind::UnknownOption)),
     }
 }

@@ -5,11 +5,13 @@ use std::process::Abort;
 use std::test::Fail;
 use uw_base::{Bytes, Memory};
 use uw_model::CacheConf;
+use uw_rules::{RegexPatterns, RuleKind};
 
 // The refused line of a text, if there is one.
 fn fault(rt: &impl Abort, alloc: Global, text: &[u8]) -> Result<Option<ConfFault>, Memory> {
     assert!(rt; text.len() < 2_000_000);
-    match read_conf(alloc, text) {
+    let mut make = RegexPatterns::new(Vec::new(alloc));
+    match read_conf(alloc, text, &mut make) {
         Ok(_) => Ok(None),
         Err(ConfError::Refused(fault)) => Ok(Some(fault)),
         Err(ConfError::Memory) => Err(Memory),
@@ -19,7 +21,8 @@ fn fault(rt: &impl Abort, alloc: Global, text: &[u8]) -> Result<Option<ConfFault
 // What a text says.
 fn conf(rt: &impl Abort, alloc: Global, text: &[u8]) -> Result<Conf, ConfError> {
     assert!(rt; text.len() < 2_000_000);
-    read_conf(alloc, text)
+    let mut make = RegexPatterns::new(Vec::new(alloc));
+    read_conf(alloc, text, &mut make)
 }
 
 fn at(line: u32, kind: ConfKind) -> Option<ConfFault> {
@@ -133,6 +136,89 @@ fn each_refusal_of_a_cache_names_its_line(rt: HostRuntime) -> Result<(), Fail> {
     ];
     for (text, want) in rows {
         assert_eq!(rt; fault(&rt, rt.alloc(), text)?, want, "{text:?}");
+    }
+    Ok(())
+}
+
+#[test]
+fn each_refusal_of_a_rule_names_its_line(rt: HostRuntime) -> Result<(), Fail> {
+    let rows: [(&[u8], Option<ConfFault>); 12] = [
+        (b"[uwsgi]\nroute = ^/old/(.*)$ redirect:/new/$1\n", None),
+        (
+            b"[uwsgi]\nroute-label = a\nroute-run = goto:a\n",
+            at(3, ConfKind::Rule(RuleKind::LabelNotAhead)),
+        ),
+        (
+            b"[uwsgi]\nroute = ( break\n",
+            at(2, ConfKind::Rule(RuleKind::BadPattern)),
+        ),
+        (
+            b"[uwsgi]\nroute-run = cachedel:key=a\n",
+            at(2, ConfKind::Rule(RuleKind::UnknownName)),
+        ),
+        (
+            b"[uwsgi]\nroute-run = cachedel:key=a\ncache2 = name=c,items=1\n",
+            None,
+        ),
+        (
+            b"[uwsgi]\nroute-run = cachedel:key=a,name=c\ncache2 = name=c,items=0\n",
+            at(2, ConfKind::Rule(RuleKind::UnknownName)),
+        ),
+        (
+            b"[uwsgi]\nworkers = 0\nroute = ( break\n",
+            at(2, ConfKind::BadValue),
+        ),
+        (
+            b"[uwsgi]\nroute = ( break\nworkers = 0\n",
+            at(2, ConfKind::Rule(RuleKind::BadPattern)),
+        ),
+        (
+            b"[uwsgi]\nroute-run = goto:a\nworkers = 0\nroute-label = a\n",
+            at(3, ConfKind::BadValue),
+        ),
+        (
+            b"[uwsgi]\nroute-run = goto:a\nroute-label = a b\n",
+            at(2, ConfKind::Rule(RuleKind::LabelNotAhead)),
+        ),
+        (b"[other]\nroute = ( break\n", None),
+        (b"route = ( break\n", at(1, ConfKind::BadLine)),
+    ];
+    for (text, want) in rows {
+        assert_eq!(rt; fault(&rt, rt.alloc(), text)?, want, "{text:?}");
+    }
+    Ok(())
+}
+
+// The refused line of a text where the first pattern is refused.
+fn fault_without_first_pattern(
+    rt: &impl Abort,
+    alloc: Global,
+    text: &[u8],
+) -> Result<Option<ConfFault>, Fail> {
+    assert!(rt; text.len() < 2_000_000);
+    let mut make = RegexPatterns::new([1].to_vec(alloc)?);
+    match read_conf(alloc, text, &mut make) {
+        Ok(_) => Ok(None),
+        Err(ConfError::Refused(fault)) => Ok(Some(fault)),
+        Err(ConfError::Memory) => Err(Fail::from(Memory)),
+    }
+}
+
+#[test]
+fn a_refused_pattern_names_its_line(rt: HostRuntime) -> Result<(), Fail> {
+    let refused = ConfKind::Rule(RuleKind::PatternRefused);
+    let rows: [(&[u8], Option<ConfFault>); 4] = [
+        (b"[uwsgi]\nroute = a break\n", at(2, refused)),
+        (b"[uwsgi]\nroute = a nothing\n", at(2, refused)),
+        (
+            b"[uwsgi]\nworkers = 0\nroute = a break\n",
+            at(2, ConfKind::BadValue),
+        ),
+        (b"[uwsgi]\nroute = a break\nworkers = 0\n", at(2, refused)),
+    ];
+    for (text, want) in rows {
+        let found = fault_without_first_pattern(&rt, rt.alloc(), text)?;
+        assert_eq!(rt; found, want, "{text:?}");
     }
     Ok(())
 }

@@ -1,6 +1,8 @@
 -- The status and the text of a fault (own rule).
 use Rattle.std.specs.Prelude.{ℕ, List, ◌++◌, codes, Option, None, Some}
 use Rattle.std.specs.Fmt.{decimal}
+use Rattle.uw_rules.specs.declared.kinds.RuleKind.{RuleKind}
+use Rattle.uw_rules.specs.declared.kinds.RuleKind.TheVariants as rules
 use Rattle.uw_conf.specs.declared.conf.ConfKind.{ConfKind}
 use Rattle.uw_conf.specs.declared.conf.ConfKind.TheVariants as kinds
 use Rattle.uw_ends.specs.declared.ends.BadPacket.{BadPacket}
@@ -24,6 +26,19 @@ status_of (Some faults.NotStarted) = 10
 status_of (Some faults.NoSocket) = 11
 status_of (Some faults.NotBound) = 15
 
+-- the name of the kind of a refused rule
+abbrev pub name_of_rule : RuleKind → List ℕ
+name_of_rule rules.BadRule = codes "BadRule"
+name_of_rule rules.BadPattern = codes "BadPattern"
+name_of_rule rules.PatternRefused = codes "PatternRefused"
+name_of_rule rules.UnknownCondition = codes "UnknownCondition"
+name_of_rule rules.UnknownAction = codes "UnknownAction"
+name_of_rule rules.LabelTwice = codes "LabelTwice"
+name_of_rule rules.LabelNotAhead = codes "LabelNotAhead"
+name_of_rule rules.BadTemplate = codes "BadTemplate"
+name_of_rule rules.TooManyRules = codes "TooManyRules"
+name_of_rule rules.UnknownName = codes "UnknownName"
+
 -- the name of the kind of a refused line
 abbrev pub name_of : ConfKind → List ℕ
 name_of kinds.BadLine = codes "BadLine"
@@ -32,6 +47,7 @@ name_of kinds.BadValue = codes "BadValue"
 name_of kinds.Missing = codes "Missing"
 name_of kinds.NameTwice = codes "NameTwice"
 name_of (kinds.TooLarge bytes limit) = codes "TooLarge"
+name_of (kinds.Rule kind) = name_of_rule kind
 
 -- the text of a refused packet, or of a refused event
 abbrev pub text_of_packet : BadPacket → List ℕ

@@ -3,6 +3,7 @@ use crate::{BadPacket, BriefList, Command, RunEnd, RunFault, WordsFault, fault_t
 use std::alloc::{AllocError, Global};
 use std::test::Fail;
 use uw_conf::{ConfFault, ConfKind};
+use uw_rules::RuleKind;
 
 #[derive(Clone, Copy)]
 enum Wanted {
@@ -108,6 +109,28 @@ fn pipe_takes_up_to_64_deaths(rt: HostRuntime) -> Result<(), Fail> {
 
 fn conf(line: u32, kind: ConfKind) -> RunFault {
     RunFault::Conf(ConfFault { line, kind })
+}
+
+#[test]
+fn each_refused_rule_has_its_text(rt: HostRuntime) -> Result<(), Fail> {
+    let rows = [
+        (RuleKind::BadRule, "conf line 3: BadRule"),
+        (RuleKind::BadPattern, "conf line 3: BadPattern"),
+        (RuleKind::PatternRefused, "conf line 3: PatternRefused"),
+        (RuleKind::UnknownCondition, "conf line 3: UnknownCondition"),
+        (RuleKind::UnknownAction, "conf line 3: UnknownAction"),
+        (RuleKind::LabelTwice, "conf line 3: LabelTwice"),
+        (RuleKind::LabelNotAhead, "conf line 3: LabelNotAhead"),
+        (RuleKind::BadTemplate, "conf line 3: BadTemplate"),
+        (RuleKind::TooManyRules, "conf line 3: TooManyRules"),
+        (RuleKind::UnknownName, "conf line 3: UnknownName"),
+    ];
+    for (kind, text) in rows {
+        let fault = conf(3, ConfKind::Rule(kind));
+        let told = fault_text(rt.alloc(), &fault)?;
+        assert_eq!(rt; told.as_slice(), text.as_bytes());
+    }
+    Ok(())
 }
 
 const TOO_LARGE: ConfKind = ConfKind::TooLarge {

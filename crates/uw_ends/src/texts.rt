@@ -2,12 +2,13 @@
 ghost use Rattle.std.specs.Prelude.{◌≡◌, ◌++◌, IfOk};
 ghost use Rattle.std.specs.Fmt.{decimal};
 ghost use Rattle.uw_ends.specs.declared.ends.RunFault.TheVariants as faults;
-ghost use Rattle.uw_ends.specs.Ends.{name_of, text_of, text_of_packet};
+ghost use Rattle.uw_ends.specs.Ends.{name_of, name_of_rule, text_of, text_of_packet};
 
 use crate::{BadPacket, RunFault};
 use std::alloc::Global;
 use uw_base::{Bytes, Memory, put_decimal};
 use uw_conf::{ConfFault, ConfKind};
+use uw_rules::RuleKind;
 
 /// The text of a fault, for a person, without a line feed.
 pub fn fault_text(alloc: Global, fault: &RunFault) -> Result<Bytes, Memory>
@@ -54,6 +55,24 @@ fn kind_name(kind: &ConfKind) -> &'static [u8]
         ConfKind::Missing => b"Missing",
         ConfKind::NameTwice => b"NameTwice",
         ConfKind::TooLarge { .. } => b"TooLarge",
+        ConfKind::Rule(kind) => rule_name(kind),
+    }
+}
+
+fn rule_name(kind: &RuleKind) -> &'static [u8]
+    ensures { result.now ≡ name_of_rule kind.now }
+{
+    match kind {
+        RuleKind::BadRule => b"BadRule",
+        RuleKind::BadPattern => b"BadPattern",
+        RuleKind::PatternRefused => b"PatternRefused",
+        RuleKind::UnknownCondition => b"UnknownCondition",
+        RuleKind::UnknownAction => b"UnknownAction",
+        RuleKind::LabelTwice => b"LabelTwice",
+        RuleKind::LabelNotAhead => b"LabelNotAhead",
+        RuleKind::BadTemplate => b"BadTemplate",
+        RuleKind::TooManyRules => b"TooManyRules",
+        RuleKind::UnknownName => b"UnknownName",
     }
 }
 

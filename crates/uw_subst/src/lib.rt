@@ -9,6 +9,7 @@ mod parts;
 mod reading;
 mod template;
 
+pub use reading::is_template;
 pub use template::{Filled, SubstFault, Template};
 
 #[cfg(test)]

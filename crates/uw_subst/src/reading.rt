@@ -1,11 +1,11 @@
 // A template's text, cut into parts from left to right.
-ghost use Rattle.std.specs.Prelude.{◌≡◌, ◌+◌, ◌-◌, ◌^◌, ◌<◌, ◌≤◌, ◌∷◌, ◌++◌, Some, length, take, drop, map, [], IfOk, IfErr, OnOk, OnErr};
+ghost use Rattle.std.specs.Prelude.{◌≡◌, ◌+◌, ◌-◌, ◌^◌, ◌<◌, ◌≤◌, ◌∷◌, ◌++◌, Some, is_none, length, take, drop, map, [], IfOk, IfErr, OnOk, OnErr};
 ghost use Rattle.std.specs.Bool.{OnTrue};
 ghost use Rattle.uw_subst.specs.Answers.{IsFaultOf};
 ghost use Rattle.uw_subst.specs.Parts.{AreParts};
 ghost use Rattle.uw_subst.specs.PartSteps.{IsNextPart};
 ghost use Rattle.uw_subst.specs.StartSteps.{StartsWith};
-ghost use Rattle.uw_subst.specs.Templates.{plain, first_bad, pieces_of};
+ghost use Rattle.uw_subst.specs.Templates.{plain, fault_of, first_bad, pieces_of};
 ghost use Rattle.uw_subst.specs.declared.template.SubstFault.TheVariants as faults;
 
 use crate::SubstFault;
@@ -99,6 +99,21 @@ fn part_at(text: &[u8], at: usize) -> Result<(Part, usize), SubstFault>
         Start::Capture(number) => Ok((Part::Capture(number), at + 2)),
         Start::Form => form_at(text, at),
     }
+}
+
+/// Whether a text is a template: it has no bad form. Takes no memory.
+pub fn is_template(text: &[u8]) -> bool
+    requires { length text.now < 2 ^ 32 }
+    ensures { result ≡ is_none (fault_of text.now) }
+{
+    let mut at = 0;
+    while at < text.len() {
+        let Ok((_, end)) = part_at(text, at) else {
+            return false;
+        };
+        at = end;
+    }
+    true
 }
 
 // Puts one part at the end.

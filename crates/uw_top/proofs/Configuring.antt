@@ -1,5 +1,5 @@
 -- A configuration from the text that was read.
-use Rattle.std.proofs.Common.{◌≡◌, ℕ, ◌+◌, ◌<◌, ◌≤◌, List, [], length, take, Option, Result, Ok, Err, arith}
+use Rattle.std.proofs.Common.{◌≡◌, ℕ, ◌+◌, ◌<◌, ◌≤◌, List, [], length, take, Option, Result, Ok, Err, inl, inr, arith}
 use Rattle.std.proofs.Math.Seq.{take-length}
 use Rattle.std.proofs.lemmas.List.{length-take-le}
 use Rattle.uw_outside.specs.Streams.{Takes}
@@ -7,18 +7,19 @@ use Rattle.uw_outside.proofs.Streams.{Takes-none}
 use Rattle.uw_outside.specs.Streams.{Inflow}
 use Rattle.uw_packet.specs.Reads.{IsOver}
 use Rattle.uw_conf.specs.declared.conf.Conf.{Conf}
-use Rattle.uw_conf.specs.Configuration.{configuration_of, most_text_bytes}
+use Rattle.uw_conf.specs.declared.conf.ConfFault.{ConfFault}
+use Rattle.uw_conf.specs.Configuration.{most_text_bytes}
 use Rattle.uw_ends.specs.declared.ends.RunFault.{RunFault}
 use Rattle.uw_ends.specs.declared.ends.RunFault.TheVariants as faults
-use Rattle.uw_top.specs.Run.{ReadsText}
+use Rattle.uw_top.specs.Run.{ReadsText, IsSaid, IsSaidWithACache, Runs}
 use Rattle.uw_top.specs.RunSteps.{GivesConf, Says}
 
 -- what a text says is the configuration that is given, or the refusal
-pub conf_given : (r : Inflow) (text : List ℕ) (result : Result Conf RunFault) → ReadsText r text → Says (configuration_of text) result → GivesConf configuration_of r result
-conf_given r text (Ok conf) read says = (text, read, says)
-conf_given r text (Err (faults.Conf fault)) read says = (text, read, says)
-conf_given r text (Err faults.Memory) read says = (text, read.taken, read.few)
-conf_given r text (Err _) read says = absurd says
+pub conf_given : (said : List ℕ → Result Conf ConfFault → Type 0) (r : Inflow) (text : List ℕ) (result : Result Conf RunFault) → ReadsText r text → Says (said text) result → GivesConf said r result
+conf_given said r text (Ok conf) read says = (text, read, says)
+conf_given said r text (Err (faults.Conf fault)) read says = (text, read, says)
+conf_given said r text (Err faults.Memory) read says = (text, read.taken, read.few)
+conf_given said r text (Err _) read says = absurd says
 
 -- a buffer of one byte more than a text may have was filled
 pub read_full : (r : Inflow) (text : List ℕ) → Takes r.before r.now (take (length text) text) → length text ≡ most_text_bytes + 1 → ReadsText r text
@@ -34,3 +35,19 @@ read_short r buffer n taken short full over =
 -- nothing of a configuration was read
 pub nothing_read : (left : Option (List ℕ)) → (text : List ℕ) × Takes left left text × (length text ≤ most_text_bytes + 1)
 nothing_read left = ([], Takes-none left, omega arith)
+
+-- a command over a configuration that was given
+pub runs_over : (said : List ℕ → Result Conf ConfFault → Type 0) (r : Inflow) (untouched : Type 0) (fault : Option RunFault) (Ran : Conf → Type 0) (conf : Conf)
+    → GivesConf said r (Ok conf) → Ran conf → Runs said r untouched fault Ran
+runs_over said r untouched fault Ran conf given ran = inl (given.0, conf, given.1, given.2, ran)
+
+-- what is given for a command that needs a cache
+pub cache_given : (before after : ℕ) (r : Inflow) (conf : Conf) (result : Result Conf RunFault) → GivesConf (IsSaid before after) r (Ok conf)
+    → ((before after : ℕ) (text : List ℕ) → IsSaid before after text (Ok conf) → Says (IsSaidWithACache before after text) result) → GivesConf (IsSaidWithACache before after) r result
+cache_given before after r conf result given says = conf_given (IsSaidWithACache before after) r given.0 result given.1 (says before after given.0 given.2)
+
+-- what holds of a run, said of more
+pub runs_map : (said : List ℕ → Result Conf ConfFault → Type 0) (r : Inflow) (untouched still : Type 0) (fault : Option RunFault) (Ran Did : Conf → Type 0)
+    → (untouched → still) → ((conf : Conf) → Ran conf → Did conf) → Runs said r untouched fault Ran → Runs said r still fault Did
+runs_map said r untouched still fault Ran Did same does (inl (text, conf, read, says, ran)) = inl (text, conf, read, says, does conf ran)
+runs_map said r untouched still fault Ran Did same does (inr (begun, left)) = inr (begun, same left)

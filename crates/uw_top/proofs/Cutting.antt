@@ -7,7 +7,7 @@ use Rattle.std.proofs.lemmas.Option.{none-some}
 use Rattle.uw_packet.specs.declared.packet.Header.{Header}
 use Rattle.uw_packet.specs.Packet.{header_bytes, IsPacket}
 use Rattle.uw_packet.proofs.BlockLaws.{packet_unique}
-use Rattle.uw_conf.specs.declared.conf.Conf.{Conf}
+use Rattle.uw_conf.specs.declared.conf.Options.{Options}
 use Rattle.uw_conf.specs.Configuration.{configuration_of}
 use Rattle.uw_conf.specs.Sound.{HasLimits}
 use Rattle.uw_conf.proofs.OptionLemmas.{limits_kept, blank_limits}
@@ -17,7 +17,7 @@ use Rattle.uw_top.specs.Exchange.{Exchange, packet_bytes, refusal_of, IsAnswered
 use Rattle.uw_top.specs.Pipe.{bytes_of, moments_of}
 
 -- an accepted header has a size within the limit
-accepted_size : (conf : Conf) (head : Header) → refusal_of conf head ≡ None → head.size ≤ conf.buffer_size
+accepted_size : (conf : Options) (head : Header) → refusal_of conf head ≡ None → head.size ≤ conf.buffer_size
 accepted_size conf head accepted =
     elim (cases_Bool (nat_lt conf.buffer_size head.size)) [
       | inl above ↦ absurd (none-some (bad.TooBig head.size conf.buffer_size) (sym (rw above at accepted)))
@@ -30,14 +30,14 @@ exchange_same x y moment head block =
     ap (λ (m : ℕ). made m x.head x.block) moment ∙ ap (λ (h : Header). made y.moment h x.block) head ∙ ap (λ (b : List ℕ). made y.moment y.head b) block
 
 -- a packet that is answered stands at the front of its bytes and whatever is behind them
-stands : (conf : Conf) (bytes rest : List ℕ) (x : Exchange) → conf.buffer_size < 2 ^ 16 → IsAnswered conf x → bytes ≡ packet_bytes x ++ rest → IsPacket bytes x.head x.block rest
+stands : (conf : Options) (bytes rest : List ℕ) (x : Exchange) → conf.buffer_size < 2 ^ 16 → IsAnswered conf x → bytes ≡ packet_bytes x ++ rest → IsPacket bytes x.head x.block rest
 stands conf bytes rest x small answered whole = record {
   fits = omega (arith, accepted_size conf x.head answered.accepted);
   size = answered.size;
   whole = whole ∙ append_assoc (header_bytes x.head) x.block rest;
 }
 
-pub cut_in_one_way : (conf : Conf) (xs ys : List Exchange) → conf.buffer_size < 2 ^ 16 → AllByRecursion (IsAnswered conf) xs → AllByRecursion (IsAnswered conf) ys
+pub cut_in_one_way : (conf : Options) (xs ys : List Exchange) → conf.buffer_size < 2 ^ 16 → AllByRecursion (IsAnswered conf) xs → AllByRecursion (IsAnswered conf) ys
     → moments_of xs ≡ moments_of ys → bytes_of xs ≡ bytes_of ys → xs ≡ ys
 cut_in_one_way conf [] [] small a b moments bytes = refl
 cut_in_one_way conf [] (y ∷ ys) small a b moments bytes = absurd cc
@@ -51,7 +51,7 @@ cut_in_one_way conf (x ∷ xs) (y ∷ ys) small a b moments bytes =
     ap₂ (λ (z : Exchange) (zs : List Exchange). z ∷ zs) (exchange_same x y moment same.0 same.1) (cut_in_one_way conf xs ys small a.1 b.1 others same.2)
 
 -- the limit of a configuration is a number that two bytes can hold
-pub small_limit : (text : List ℕ) (conf : Conf) → configuration_of text ≡ Ok conf → conf.buffer_size < 2 ^ 16
+pub small_limit : (text : List ℕ) (conf : Options) → configuration_of text ≡ Ok conf → conf.buffer_size < 2 ^ 16
 small_limit text conf says =
     let limits = configuration_keeps HasLimits limits_kept blank_limits text conf says in
     omega (arith, limits.buffer_size.1)

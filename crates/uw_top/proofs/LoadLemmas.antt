@@ -18,7 +18,7 @@ use Rattle.uw_model.specs.ListState.{ListState}
 use Rattle.uw_model.specs.Caches.{empty_caches}
 use Rattle.uw_cachecmd.specs.declared.commands.Kind.{Kind}
 use Rattle.uw_cachecmd.specs.Commands.{commanded, command_block_ask}
-use Rattle.uw_conf.specs.declared.conf.Conf.{Conf}
+use Rattle.uw_conf.specs.declared.conf.Options.{Options}
 use Rattle.uw_conf.proofs.SizeLemmas.{AllByRecursion-push}
 use Rattle.uw_ends.specs.declared.ends.BadPacket.TheVariants as bad
 use Rattle.uw_ends.specs.declared.ends.RunFault.{RunFault}
@@ -106,11 +106,11 @@ commanded_whole (Some kind) (Some cache) (Some ttl) (Some by) key value = refl
 command_whole : (names : List (List ℕ)) (read : Result (List Pair) ℕ) (pairs : List Pair) → read ≡ Ok pairs → broken_at (command_block_ask names read) ≡ None
 command_whole names read pairs e = rw e (commanded_whole _ _ _ _ _ _)
 
-generated_whole : (conf : Conf) (x : ℕ) → x < 2 ^ 31 → broken_at (asked_by conf (head_for x) (block_for x)) ≡ None
+generated_whole : (conf : Options) (x : ℕ) → x < 2 ^ 31 → broken_at (asked_by conf (head_for x) (block_for x)) ≡ None
 generated_whole conf x small = command_whole (names_of conf) (vars_read (block_for x)) (variables_for x) (pairs_read (variables_for x) (variables_short x small))
 
 -- what replies to a packet that is answered answers it
-answers_it : (conf : Conf) (caches after : List ListState) (x : Exchange) (result : Result Replied RunFault)
+answers_it : (conf : Options) (caches after : List ListState) (x : Exchange) (result : Result Replied RunFault)
     → IsAnswered conf x → RepliesTo conf caches after x result → AnswersNumber conf caches after x result
 answers_it conf caches after x (Ok replied) is r = (is, r.0, r.1, r.2)
 answers_it conf caches after x (Err (faults.BadPacket (bad.BadBlock at))) is r = absurd (cc (is.grammar, r))
@@ -119,7 +119,7 @@ answers_it conf caches after x (Err faults.Memory) is r = tt
 answers_it conf caches after x (Err _) is r = absurd r
 
 -- the same for a packet that is the generated one by two equations
-pub answers_generated : (conf : Conf) (caches after : List ListState) (moment x : ℕ) (head : Header) (block : List ℕ) (result : Result Replied RunFault)
+pub answers_generated : (conf : Options) (caches after : List ListState) (moment x : ℕ) (head : Header) (block : List ℕ) (result : Result Replied RunFault)
     → x < 2 ^ 31 → head ≡ head_for x → block ≡ block_for x → None ≡ refusal_of conf head
     → RepliesTo conf caches after (record { moment = moment; head = head; block = block }) result
     → AnswersNumber conf caches after (packet_for moment x) result
@@ -141,7 +141,7 @@ number_after-push x [] moment = refl
 number_after-push x (m ∷ moments) moment = number_after-push (next_number x) moments moment
 
 -- the figures of packets and of one more
-figures_from-push : (conf : Conf) (caches : List ListState) (f : Figures) (xs : List Exchange) (x : Exchange)
+figures_from-push : (conf : Options) (caches : List ListState) (f : Figures) (xs : List Exchange) (x : Exchange)
     → figures_from conf caches f (xs ++ x ∷ []) ≡ with_reply (figures_from conf caches f xs) (reply_of conf (caches_from conf caches xs) x).answer (reply_of conf (caches_from conf caches xs) x).text
 figures_from-push conf caches f [] x = refl
 figures_from-push conf caches f (y ∷ xs) x =
@@ -152,17 +152,17 @@ pub packets_more : (f g : Figures) (answer : Option Answer) (text : List ℕ) (s
 packets_more f g answer text served more so_far = ap (λ (h : Figures). h.packets) more ∙ ap (λ (n : ℕ). n + 1) so_far
 
 -- the answer to the next number of a load, whose number and configuration are known by equations
-as_next : (conf turned : Conf) (held after : List ListState) (moment number next : ℕ) (result : Result Replied RunFault)
+as_next : (conf turned : Options) (held after : List ListState) (moment number next : ℕ) (result : Result Replied RunFault)
     → turned ≡ conf → next ≡ next_number number
     → AnswersNumber turned held after (packet_for moment next) result → AnswersNumber conf held after (packet_for moment (next_number number)) result
 as_next conf turned held after moment number next result same step a =
     let stepped = subst (λ (n : ℕ). AnswersNumber turned held after (packet_for moment n) result) step a in
-    subst (λ (c : Conf). AnswersNumber c held after (packet_for moment (next_number number)) result) same stepped
+    subst (λ (c : Options). AnswersNumber c held after (packet_for moment (next_number number)) result) same stepped
 
 -- one packet more
 pub one_loaded : {Clk : Type 0} (gave : Clk → Clk → List ℕ → Type 0)
     (gave_more : (a b c : Clk) (early late : List ℕ) → gave a b early → gave b c late → gave a c (early ++ late))
-    (conf turned : Conf) (first number next : ℕ) (held after : List ListState) (f g : Figures) (clock mid later : Clk) (moment served : ℕ) (replied : Replied)
+    (conf turned : Options) (first number next : ℕ) (held after : List ListState) (f g : Figures) (clock mid later : Clk) (moment served : ℕ) (replied : Replied)
     → turned ≡ conf → next ≡ next_number number → g ≡ with_reply f replied.answer replied.text
     → IsLoaded conf first number held f (gave clock mid) served → gave mid later (moment ∷ [])
     → AnswersNumber turned held after (packet_for moment next) (Ok replied)
@@ -202,7 +202,7 @@ unwritten taken faults = record { before = taken; now = taken; faults_before = f
 -- a packet was not answered
 pub load_stops : {Clk : Type 0} (gave : Clk → Clk → List ℕ → Type 0)
     (gave_more : (a b c : Clk) (early late : List ℕ) → gave a b early → gave b c late → gave a c (early ++ late))
-    (conf turned : Conf) (first number next count : ℕ) (held after : List ListState) (f : Figures) (taken : Option (List ℕ)) (f0 : ℕ) (clock mid later : Clk) (moment served : ℕ) (fault : RunFault)
+    (conf turned : Options) (first number next count : ℕ) (held after : List ListState) (f : Figures) (taken : Option (List ℕ)) (f0 : ℕ) (clock mid later : Clk) (moment served : ℕ) (fault : RunFault)
     → turned ≡ conf → next ≡ next_number number → served < count
     → IsLoaded conf first number held f (gave clock mid) served → gave mid later (moment ∷ [])
     → AnswersNumber turned held after (packet_for moment next) (Err fault)
@@ -235,7 +235,7 @@ load_stops gave gave_more conf turned first number next count held after f taken
 
 -- all packets were answered, and this was written
 all_loaded : {Clk : Type 0} (gave : Clk → Clk → List ℕ → Type 0)
-    (conf : Conf) (first number count : ℕ) (held : List ListState) (f : Figures) (w : Outflow) (clock mid : Clk) (served : ℕ) (part : List ℕ) (fault : Option RunFault)
+    (conf : Options) (first number count : ℕ) (held : List ListState) (f : Figures) (w : Outflow) (clock mid : Clk) (served : ℕ) (part : List ℕ) (fault : Option RunFault)
     → served ≡ count → (s : IsLoaded conf first number held f (gave clock mid) served) → Gives w.before w.now part
     → LoadEndsBy conf (record { first = first; count = count; snk = w; moments = s.moments; late = []; part = part }) fault
     → LoadRun conf first count w (gave clock mid) fault
@@ -252,7 +252,7 @@ all_loaded gave conf first number count held f w clock mid served part fault all
 
 -- all packets were answered, and their figures were to be written
 pub load_ends : {Clk : Type 0} (gave : Clk → Clk → List ℕ → Type 0)
-    (conf : Conf) (first number count : ℕ) (held : List ListState) (f : Figures) (w : Outflow) (clock mid : Clk) (served : ℕ) (fault : Option RunFault)
+    (conf : Options) (first number count : ℕ) (held : List ListState) (f : Figures) (w : Outflow) (clock mid : Clk) (served : ℕ) (fault : Option RunFault)
     → served ≡ count → IsLoaded conf first number held f (gave clock mid) served → WritesText (figures_text f) w fault
     → LoadRun conf first count w (gave clock mid) fault
 load_ends gave conf first number count held f w clock mid served None all s t =

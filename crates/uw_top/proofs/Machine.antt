@@ -8,7 +8,7 @@ use Rattle.uw_outside.proofs.Streams.{Takes-none, Takes-append, Gives-none, Give
 use Rattle.uw_outside.specs.Streams.{Inflow}
 use Rattle.uw_model.specs.ListState.{ListState}
 use Rattle.uw_model.specs.Caches.{empty_caches}
-use Rattle.uw_conf.specs.declared.conf.Conf.{Conf}
+use Rattle.uw_conf.specs.declared.conf.Options.{Options}
 use Rattle.uw_conf.proofs.SizeLemmas.{AllByRecursion-push}
 use Rattle.uw_ends.specs.declared.ends.Brief.{Brief}
 use Rattle.uw_ends.specs.declared.ends.RunFault.{RunFault}
@@ -21,7 +21,7 @@ use Rattle.uw_top.proofs.Packets.{caches_from-push}
 use Rattle.uw_top.proofs.Taking.{rose_since}
 
 -- the frames of packets and of one more
-frames_from-push : (conf : Conf) (caches : List ListState) (xs : List Exchange) (x : Exchange)
+frames_from-push : (conf : Options) (caches : List ListState) (xs : List Exchange) (x : Exchange)
     → frames_from conf caches (xs ++ x ∷ []) ≡ frames_from conf caches xs ++ frame_of conf (caches_from conf caches xs) x
 frames_from-push conf caches [] x = append-nil (frame_of conf caches x)
 frames_from-push conf caches (y ∷ xs) x =
@@ -31,7 +31,7 @@ frames_from-push conf caches (y ∷ xs) x =
 
 -- no packet yet
 pub none_yet : {Clk : Type 0} (gave : Clk → Clk → List ℕ → Type 0) (gave_none : (clock : Clk) → gave clock clock [])
-    (conf : Conf) (left taken : Option (List ℕ)) (clock : Clk) → SoFar conf (empty_caches conf.caches) [] left left taken taken (gave clock clock) 0
+    (conf : Options) (left taken : Option (List ℕ)) (clock : Clk) → SoFar conf (empty_caches conf.caches) [] left left taken taken (gave clock clock) 0
 none_yet gave gave_none conf left taken clock = record {
   packets = [];
   answered = tt;
@@ -46,7 +46,7 @@ none_yet gave gave_none conf left taken clock = record {
 -- one packet more
 pub one_more : {Clk : Type 0} (gave : Clk → Clk → List ℕ → Type 0)
     (gave_more : (a b c : Clk) (early late : List ℕ) → gave a b early → gave b c late → gave a c (early ++ late))
-    (conf : Conf) (held after : List ListState) (told told_now : List Brief) (left middle now taken between taken_now : Option (List ℕ)) (clock mid later : Clk)
+    (conf : Options) (held after : List ListState) (told told_now : List Brief) (left middle now taken between taken_now : Option (List ℕ)) (clock mid later : Clk)
     (ended : Bool) (f0 f1 s0 s1 turns : ℕ)
     → SoFar conf held told left middle taken between (gave clock mid) turns
     → Goes conf held after told told_now (record { before = middle; now = now; ended = ended; faults_before = f0; faults_now = f1 })
@@ -74,7 +74,7 @@ asked_again : (count asked : ℕ) → count < most_packets → asked ≡ (if nat
 asked_again count asked few once = grind (arith, nat_tests)
 
 -- why a turn was the last is why the run ended
-ends_later : (conf : Conf) (caches : List ListState) (left middle now taken between taken_now : Option (List ℕ)) (ended : Bool) (f0 f1 f2 s0 s1 s2 count : ℕ)
+ends_later : (conf : Options) (caches : List ListState) (left middle now taken between taken_now : Option (List ℕ)) (ended : Bool) (f0 f1 f2 s0 s1 s2 count : ℕ)
     (rest part late : List ℕ) (fault : Option RunFault)
     → f0 ≤ f1 → s0 ≤ s1 → count < most_packets
     → EndsBy conf
@@ -114,7 +114,7 @@ ends_later conf caches left middle now taken between taken_now ended f0 f1 f2 s0
 -- the packets so far, and a turn that was the last
 pub run_ends : {Clk : Type 0} (gave : Clk → Clk → List ℕ → Type 0)
     (gave_more : (a b c : Clk) (early late : List ℕ) → gave a b early → gave b c late → gave a c (early ++ late))
-    (conf : Conf) (held : List ListState) (told : List Brief) (left middle now taken between taken_now : Option (List ℕ)) (clock mid later : Clk)
+    (conf : Options) (held : List ListState) (told : List Brief) (left middle now taken between taken_now : Option (List ℕ)) (clock mid later : Clk)
     (ended : Bool) (f0 f1 f2 s0 s1 s2 turns : ℕ) (fault : Option RunFault)
     → f0 ≤ f1 → s0 ≤ s1 → turns < most_packets
     → SoFar conf held told left middle taken between (gave clock mid) turns
@@ -151,7 +151,7 @@ run_ends gave gave_more conf held told left middle now taken between taken_now c
 
 -- all packets of a run were answered, and this much was read behind them
 full : {Clk : Type 0} (gave : Clk → Clk → List ℕ → Type 0)
-    (conf : Conf) (held : List ListState) (told : List Brief) (left middle now taken taken_now : Option (List ℕ)) (clock mid : Clk)
+    (conf : Options) (held : List ListState) (told : List Brief) (left middle now taken taken_now : Option (List ℕ)) (clock mid : Clk)
     (ended : Bool) (f0 f2 s0 s1 : ℕ) (rest : List ℕ) (fault : Option RunFault) (turns : ℕ) → turns ≡ most_packets → (s : SoFar conf held told left middle taken taken_now (gave clock mid) turns)
     → Takes middle now rest
     → EndsBy conf
@@ -186,7 +186,7 @@ asked_no_more count asked none whole = grind (arith, nat_tests)
 
 -- all packets of a run were answered, and one further byte was looked for
 pub run_is_full : {Clk : Type 0} (gave : Clk → Clk → List ℕ → Type 0)
-    (conf : Conf) (held : List ListState) (told : List Brief) (left middle now taken taken_now : Option (List ℕ)) (clock mid : Clk)
+    (conf : Options) (held : List ListState) (told : List Brief) (left middle now taken taken_now : Option (List ℕ)) (clock mid : Clk)
     (ended : Bool) (f0 f1 f2 s0 s1 : ℕ) (fault : Option RunFault) (turns : ℕ)
     → f0 ≤ f1 → turns ≡ most_packets
     → SoFar conf held told left middle taken taken_now (gave clock mid) turns
@@ -206,7 +206,7 @@ run_is_full gave conf held told left middle now taken taken_now clock mid ended 
 
 -- a run that found no memory before its first packet
 pub nothing_done : {Clk : Type 0} (gave : Clk → Clk → List ℕ → Type 0) (gave_none : (clock : Clk) → gave clock clock [])
-    (conf : Conf) (left taken : Option (List ℕ)) (clock : Clk) (ended : Bool) (f0 f1 s0 s1 : ℕ)
+    (conf : Options) (left taken : Option (List ℕ)) (clock : Clk) (ended : Bool) (f0 f1 s0 s1 : ℕ)
     → PipeRun conf (record { before = left; now = left; ended = ended; faults_before = f0; faults_now = f1 })
     (record { before = taken; now = taken; faults_before = s0; faults_now = s1 }) (gave clock clock) [] (Some faults.Memory)
 nothing_done gave gave_none conf left taken clock ended f0 f1 s0 s1 = record {
@@ -226,7 +226,7 @@ nothing_done gave gave_none conf left taken clock ended f0 f1 s0 s1 = record {
 -- the same, where the turn's configuration and briefs are known by equations
 pub turn_ends : {Clk : Type 0} (gave : Clk → Clk → List ℕ → Type 0)
     (gave_more : (a b c : Clk) (early late : List ℕ) → gave a b early → gave b c late → gave a c (early ++ late))
-    (conf turned : Conf) (held : List ListState) (told told_now : List Brief) (left middle now taken between taken_now : Option (List ℕ)) (clock mid later : Clk)
+    (conf turned : Options) (held : List ListState) (told told_now : List Brief) (left middle now taken between taken_now : Option (List ℕ)) (clock mid later : Clk)
     (ended : Bool) (f0 f1 f2 s0 s1 s2 turns : ℕ) (fault : Option RunFault)
     → f0 ≤ f1 → s0 ≤ s1 → turns < most_packets → turned ≡ conf
     → SoFar conf held told left middle taken between (gave clock mid) turns
@@ -237,7 +237,7 @@ pub turn_ends : {Clk : Type 0} (gave : Clk → Clk → List ℕ → Type 0)
 turn_ends gave gave_more conf turned held told told_now left middle now taken between taken_now clock mid later ended f0 f1 f2 s0 s1 s2 turns fault lf ls few same s t =
     let src : Inflow = record { before = middle; now = now; ended = ended; faults_before = f1; faults_now = f2 } in
     let snk : Outflow = record { before = between; now = taken_now; faults_before = s1; faults_now = s2 } in
-    let stops = subst (λ (c : Conf). Stops c held src snk (gave mid later) fault) same t.1 in
+    let stops = subst (λ (c : Options). Stops c held src snk (gave mid later) fault) same t.1 in
     subst
     (λ (briefs : List Brief). PipeRun conf (record { before = left; now = now; ended = ended; faults_before = f0; faults_now = f2 })
     (record { before = taken; now = taken_now; faults_before = s0; faults_now = s2 }) (gave clock later) briefs fault)
@@ -247,7 +247,7 @@ turn_ends gave gave_more conf turned held told told_now left middle now taken be
 -- one packet more, where the turn's configuration is known by an equation
 pub turn_goes : {Clk : Type 0} (gave : Clk → Clk → List ℕ → Type 0)
     (gave_more : (a b c : Clk) (early late : List ℕ) → gave a b early → gave b c late → gave a c (early ++ late))
-    (conf turned : Conf) (held after : List ListState) (told told_now : List Brief) (left middle now taken between taken_now : Option (List ℕ)) (clock mid later : Clk)
+    (conf turned : Options) (held after : List ListState) (told told_now : List Brief) (left middle now taken between taken_now : Option (List ℕ)) (clock mid later : Clk)
     (ended : Bool) (f0 f1 s0 s1 turns : ℕ) → turned ≡ conf
     → SoFar conf held told left middle taken between (gave clock mid) turns
     → Goes turned held after told told_now (record { before = middle; now = now; ended = ended; faults_before = f0; faults_now = f1 })
@@ -257,4 +257,4 @@ turn_goes gave gave_more conf turned held after told told_now left middle now ta
     let src : Inflow = record { before = middle; now = now; ended = ended; faults_before = f0; faults_now = f1 } in
     let snk : Outflow = record { before = between; now = taken_now; faults_before = s0; faults_now = s1 } in
     one_more gave gave_more conf held after told told_now left middle now taken between taken_now clock mid later ended f0 f1 s0 s1 turns s
-    (subst (λ (c : Conf). Goes c held after told told_now src snk (gave mid later)) same t)
+    (subst (λ (c : Options). Goes c held after told told_now src snk (gave mid later)) same t)

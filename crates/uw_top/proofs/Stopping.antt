@@ -7,7 +7,7 @@ use Rattle.uw_packet.specs.declared.packet.Packet.{Packet}
 use Rattle.uw_packet.specs.Packet.{header_bytes}
 use Rattle.uw_outside.specs.Streams.{Inflow}
 use Rattle.uw_model.specs.ListState.{ListState}
-use Rattle.uw_conf.specs.declared.conf.Conf.{Conf}
+use Rattle.uw_conf.specs.declared.conf.Options.{Options}
 use Rattle.uw_ends.specs.declared.ends.BadPacket.TheVariants as bad
 use Rattle.uw_ends.specs.declared.ends.Brief.{Brief}
 use Rattle.uw_ends.specs.declared.ends.RunFault.{RunFault}
@@ -26,7 +26,7 @@ abbrev pub idle : Option (List ℕ) → ℕ → ℕ → Outflow
 idle taken k0 k1 = record { before = taken; now = taken; faults_before = k0; faults_now = k1 }
 
 -- nothing was written, and the clock was asked once
-stopped : (conf : Conf) (caches : List ListState) (r : Inflow) (taken : Option (List ℕ)) (k0 k1 moment : ℕ) (gave : List ℕ → Type 0) (bytes : List ℕ) (fault : Option RunFault)
+stopped : (conf : Options) (caches : List ListState) (r : Inflow) (taken : Option (List ℕ)) (k0 k1 moment : ℕ) (gave : List ℕ → Type 0) (bytes : List ℕ) (fault : Option RunFault)
     → gave (moment ∷ []) → Takes r.before r.now bytes
     → EndsBy conf (record { src = r; snk = idle taken k0 k1; count = 0; caches = caches; rest = bytes; part = []; late = moment ∷ [] }) fault
     → Stops conf caches r (idle taken k0 k1) gave fault
@@ -34,13 +34,13 @@ stopped conf caches r taken k0 k1 moment gave bytes fault told read ending =
     record { moment = moment; rest = bytes; part = []; read = read; written = Gives-none taken; moments = told; ending = ending }
 
 -- there was no memory before anything was read
-pub no_memory : (conf : Conf) (caches : List ListState) (left taken : Option (List ℕ)) (ended : Bool) (f0 f1 k0 k1 moment : ℕ) (gave : List ℕ → Type 0) → gave (moment ∷ [])
+pub no_memory : (conf : Options) (caches : List ListState) (left taken : Option (List ℕ)) (ended : Bool) (f0 f1 k0 k1 moment : ℕ) (gave : List ℕ → Type 0) → gave (moment ∷ [])
     → Stops conf caches (record { before = left; now = left; ended = ended; faults_before = f0; faults_now = f1 }) (idle taken k0 k1) gave (Some faults.Memory)
 no_memory conf caches left taken ended f0 f1 k0 k1 moment gave told =
     stopped conf caches (record { before = left; now = left; ended = ended; faults_before = f0; faults_now = f1 }) taken k0 k1 moment gave [] (Some faults.Memory) told (Takes-none left) (refl, omega arith)
 
 -- no packet was taken
-pub not_taken : (conf : Conf) (caches : List ListState) (r : Inflow) (taken : Option (List ℕ)) (k0 k1 moment : ℕ) (gave : List ℕ → Type 0) (fault : RunFault)
+pub not_taken : (conf : Options) (caches : List ListState) (r : Inflow) (taken : Option (List ℕ)) (k0 k1 moment : ℕ) (gave : List ℕ → Type 0) (fault : RunFault)
     → gave (moment ∷ []) → TakesPacket conf r (Err fault) → Stops conf caches r (idle taken k0 k1) gave (Some fault)
 not_taken conf caches r taken k0 k1 moment gave faults.ReadFault told t =
     stopped conf caches r taken k0 k1 moment gave t.1.0 (Some faults.ReadFault) told t.1.1 (t.0, t.1.2, refl, refl)
@@ -53,7 +53,7 @@ not_taken conf caches r taken k0 k1 moment gave faults.Memory told t =
 not_taken conf caches r taken k0 k1 moment gave _ told t = absurd t
 
 -- a packet that was taken was not answered
-pub not_answered : (conf : Conf) (caches after : List ListState) (r : Inflow) (taken : Option (List ℕ)) (k0 k1 moment : ℕ) (gave : List ℕ → Type 0) (packet : Packet) (fault : RunFault)
+pub not_answered : (conf : Options) (caches after : List ListState) (r : Inflow) (taken : Option (List ℕ)) (k0 k1 moment : ℕ) (gave : List ℕ → Type 0) (packet : Packet) (fault : RunFault)
     → gave (moment ∷ []) → TakesPacket conf r (Ok (Some packet)) → AnswersPacket conf caches after (at_moment moment packet) (Err fault)
     → Stops conf caches r (idle taken k0 k1) gave (Some fault)
 not_answered conf caches after r taken k0 k1 moment gave packet (faults.BadPacket (bad.BadBlock at)) told t broken =
@@ -65,12 +65,12 @@ not_answered conf caches after r taken k0 k1 moment gave packet faults.Memory to
 not_answered conf caches after r taken k0 k1 moment gave packet _ told t broken = absurd broken
 
 -- a packet that was taken and answered is one that is answered
-is_answered : (conf : Conf) (caches after : List ListState) (r : Inflow) (moment : ℕ) (packet : Packet) (written : List ℕ)
+is_answered : (conf : Options) (caches after : List ListState) (r : Inflow) (moment : ℕ) (packet : Packet) (written : List ℕ)
     → TakesPacket conf r (Ok (Some packet)) → AnswersPacket conf caches after (at_moment moment packet) (Ok written) → IsAnswered conf (at_moment moment packet)
 is_answered conf caches after r moment packet written t a = record { accepted = t.1; size = t.2; grammar = a.2 }
 
 -- the frame of a packet was not written whole
-pub not_written : (conf : Conf) (caches after : List ListState) (r : Inflow) (w : Outflow) (moment n : ℕ) (gave : List ℕ → Type 0) (packet : Packet) (written : List ℕ)
+pub not_written : (conf : Options) (caches after : List ListState) (r : Inflow) (w : Outflow) (moment n : ℕ) (gave : List ℕ → Type 0) (packet : Packet) (written : List ℕ)
     → gave (moment ∷ []) → TakesPacket conf r (Ok (Some packet)) → AnswersPacket conf caches after (at_moment moment packet) (Ok written)
     → n < length written → Gives w.before w.now (take n written) → Rose w.faults_before w.faults_now
     → Stops conf caches r w gave (Some faults.WriteFault)
@@ -88,7 +88,7 @@ not_written conf caches after r w moment n gave packet written told t a short gi
 }
 
 -- a packet was answered
-pub goes : (conf : Conf) (caches after : List ListState) (briefs briefs_now : List Brief) (r : Inflow) (w : Outflow) (moment : ℕ) (gave : List ℕ → Type 0) (packet : Packet) (written : List ℕ)
+pub goes : (conf : Options) (caches after : List ListState) (briefs briefs_now : List Brief) (r : Inflow) (w : Outflow) (moment : ℕ) (gave : List ℕ → Type 0) (packet : Packet) (written : List ℕ)
     → gave (moment ∷ []) → TakesPacket conf r (Ok (Some packet)) → AnswersPacket conf caches after (at_moment moment packet) (Ok written)
     → Gives w.before w.now written → briefs_now ≡ briefs ++ brief_of (at_moment moment packet) ∷ []
     → Goes conf caches after briefs briefs_now r w gave

@@ -8,7 +8,7 @@ use Rattle.uw_packet.specs.declared.packet.PacketFault.{PacketFault}
 use Rattle.uw_packet.specs.declared.packet.PacketFault.TheVariants as packets
 use Rattle.uw_packet.specs.Packet.{header_bytes}
 use Rattle.uw_packet.specs.Reads.{ReadsBlock}
-use Rattle.uw_conf.specs.declared.conf.Conf.{Conf}
+use Rattle.uw_conf.specs.declared.conf.Options.{Options}
 use Rattle.uw_top.specs.Exchange.{refusal_of}
 use Rattle.uw_top.specs.PipeSteps.{TakesPacket, fault_of}
 
@@ -16,7 +16,7 @@ use Rattle.uw_top.specs.PipeSteps.{TakesPacket, fault_of}
 pub rose_since : (before middle now : ℕ) → before ≤ middle → Rose middle now → Rose before now
 rose_since before middle now later rose = omega arith
 
-pub block_not_read : (conf : Conf) (before middle now : Option (List ℕ)) (ended : Bool) (f0 f1 f2 : ℕ) (head : Header) (fault : PacketFault)
+pub block_not_read : (conf : Options) (before middle now : Option (List ℕ)) (ended : Bool) (f0 f1 f2 : ℕ) (head : Header) (fault : PacketFault)
     → Takes before middle (header_bytes head) → f0 ≤ f1 → refusal_of conf head ≡ None
     → ReadsBlock (record { before = middle; now = now; ended = ended; faults_before = f1; faults_now = f2 }) head.size (Err fault)
     → TakesPacket conf (record { before = before; now = now; ended = ended; faults_before = f0; faults_now = f2 }) (Err (fault_of fault))

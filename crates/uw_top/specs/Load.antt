@@ -11,7 +11,7 @@ use Rattle.uw_model.specs.declared.calls.Answer.{Answer}
 use Rattle.uw_model.specs.declared.calls.Answer.TheVariants as answers
 use Rattle.uw_model.specs.ListState.{ListState}
 use Rattle.uw_model.specs.Caches.{empty_caches}
-use Rattle.uw_conf.specs.declared.conf.Conf.{Conf}
+use Rattle.uw_conf.specs.declared.conf.Options.{Options}
 use Rattle.uw_ends.specs.declared.ends.RunFault.{RunFault}
 use Rattle.uw_ends.specs.declared.ends.RunFault.TheVariants as faults
 use Rattle.uw_top.specs.declared.load.Figures.{Figures}
@@ -74,7 +74,7 @@ abbrev pub with_reply : Figures → Option Answer → List ℕ → Figures
 with_reply f answer text = record (with_kind f answer) { packets = f.packets + 1; bytes = f.bytes + length text }
 
 -- the figures of packets, the caches being these at first
-abbrev pub figures_from : Conf → List ListState → Figures → List Exchange → Figures
+abbrev pub figures_from : Options → List ListState → Figures → List Exchange → Figures
 figures_from conf caches f [] = f
 figures_from conf caches f (x ∷ xs) =
     figures_from conf (reply_of conf caches x).caches (with_reply f (reply_of conf caches x).answer (reply_of conf caches x).text) xs
@@ -90,7 +90,7 @@ figures_text f =
     ++ figure_line (codes "number ") f.number ++ figure_line (codes "other ") f.other ++ figure_line (codes "bytes ") f.bytes
 
 -- the figures of a load's packets over the caches of a configuration, which are empty at first
-abbrev pub load_text : Conf → ℕ → List ℕ → List ℕ
+abbrev pub load_text : Options → ℕ → List ℕ → List ℕ
 load_text conf first moments = figures_text (figures_from conf (empty_caches conf.caches) no_figures (packets_from first moments))
 
 -- how a load came to its end
@@ -106,7 +106,7 @@ pub record LoadEnding : Type 0 where
   pub part : List ℕ
 
 -- why a load ended: the figures were written once all its packets were answered; or a packet is above the limit, and nothing is written
-abbrev pub LoadEndsBy : Conf → LoadEnding → Option RunFault → Type 0
+abbrev pub LoadEndsBy : Options → LoadEnding → Option RunFault → Type 0
 LoadEndsBy conf e None = (length e.moments ≡ e.count) × (e.late ≡ []) × (e.part ≡ load_text conf e.first e.moments)
 LoadEndsBy conf e (Some faults.WriteFault) =
     Rose e.snk.faults_before e.snk.faults_now × (length e.moments ≡ e.count) × (e.late ≡ [])
@@ -118,7 +118,7 @@ LoadEndsBy conf e (Some faults.Memory) = (e.part ≡ []) × (length e.late ≤ 1
 LoadEndsBy conf e (Some _) = ⊥
 
 -- what a load wrote into its sink and was told by its clock, and how it ended
-pub record LoadRun (conf : Conf) (first count : ℕ) (snk : Outflow) (gave : List ℕ → Type 0) (fault : Option RunFault) : Type 0 where
+pub record LoadRun (conf : Options) (first count : ℕ) (snk : Outflow) (gave : List ℕ → Type 0) (fault : Option RunFault) : Type 0 where
   pub moments : List ℕ
   pub late : List ℕ
   pub part : List ℕ

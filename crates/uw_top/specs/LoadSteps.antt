@@ -5,7 +5,7 @@ use Rattle.uw_outside.specs.Faults.{Rose}
 use Rattle.uw_outside.specs.Streams.{Gives}
 use Rattle.uw_model.specs.ListState.{ListState}
 use Rattle.uw_model.specs.Caches.{empty_caches}
-use Rattle.uw_conf.specs.declared.conf.Conf.{Conf}
+use Rattle.uw_conf.specs.declared.conf.Options.{Options}
 use Rattle.uw_ends.specs.declared.ends.RunFault.{RunFault}
 use Rattle.uw_ends.specs.declared.ends.RunFault.TheVariants as faults
 use Rattle.uw_top.specs.declared.load.Figures.{Figures}
@@ -16,7 +16,7 @@ use Rattle.uw_top.specs.Pipe.{caches_from}
 use Rattle.uw_top.specs.Load.{figures_from, next_number, no_figures, packets_from}
 
 -- a packet was answered, or its header is refused, or there was no memory
-abbrev pub AnswersNumber : Conf → List ListState → List ListState → Exchange → Result Replied RunFault → Type 0
+abbrev pub AnswersNumber : Options → List ListState → List ListState → Exchange → Result Replied RunFault → Type 0
 AnswersNumber conf caches after x (Ok replied) =
     IsAnswered conf x × (replied.text ≡ (reply_of conf caches x).text) × (replied.answer ≡ (reply_of conf caches x).answer) × (after ≡ (reply_of conf caches x).caches)
 AnswersNumber conf caches after x (Err (faults.BadPacket packet)) = refusal_of conf x.head ≡ Some packet
@@ -43,7 +43,7 @@ number_after x [] = x
 number_after x (moment ∷ moments) = number_after (next_number x) moments
 
 -- the packets of a load answered so far, one for each moment: the number of the last, and the caches and the figures after them
-pub record IsLoaded (conf : Conf) (first number : ℕ) (held : List ListState) (found : Figures) (gave : List ℕ → Type 0) (served : ℕ) : Type 0 where
+pub record IsLoaded (conf : Options) (first number : ℕ) (held : List ListState) (found : Figures) (gave : List ℕ → Type 0) (served : ℕ) : Type 0 where
   pub moments : List ℕ
   pub answered : AllByRecursion (IsAnswered conf) (packets_from first moments)
   pub told : gave moments

@@ -12,7 +12,7 @@ use Rattle.uw_outside.specs.Streams.{Inflow}
 use Rattle.uw_packet.specs.Reads.{IsOver}
 use Rattle.uw_model.specs.ListState.{ListState}
 use Rattle.uw_model.specs.Caches.{empty_caches}
-use Rattle.uw_conf.specs.declared.conf.Conf.{Conf}
+use Rattle.uw_conf.specs.declared.conf.Options.{Options}
 use Rattle.uw_ends.specs.declared.ends.BadPacket.TheVariants as bad
 use Rattle.uw_ends.specs.declared.ends.Brief.{Brief}
 use Rattle.uw_ends.specs.declared.ends.RunFault.{RunFault}
@@ -31,7 +31,7 @@ fault_of packets.ReadFault = faults.ReadFault
 fault_of packets.Memory = faults.Memory
 
 -- a packet with an accepted header was taken; or the source was at its end; or why there is no packet, and what was taken of it
-abbrev pub TakesPacket : Conf → Inflow → Result (Option Packet) RunFault → Type 0
+abbrev pub TakesPacket : Options → Inflow → Result (Option Packet) RunFault → Type 0
 TakesPacket conf r (Ok None) = Takes r.before r.now [] × IsOver r
 TakesPacket conf r (Ok (Some packet)) =
     Takes r.before r.now (header_bytes packet.head ++ packet.block) × (refusal_of conf packet.head ≡ None) × (length packet.block ≡ packet.head.size)
@@ -42,7 +42,7 @@ TakesPacket conf r (Err faults.Memory) = (bytes : List ℕ) × Takes r.before r.
 TakesPacket conf r (Err _) = ⊥
 
 -- a packet was answered by its reply, and the caches are those after it; or its block is out of its grammar; or there was no memory
-abbrev pub RepliesTo : Conf → List ListState → List ListState → Exchange → Result Replied RunFault → Type 0
+abbrev pub RepliesTo : Options → List ListState → List ListState → Exchange → Result Replied RunFault → Type 0
 RepliesTo conf caches after x (Ok replied) =
     (replied.text ≡ (reply_of conf caches x).text) × (replied.answer ≡ (reply_of conf caches x).answer) × (after ≡ (reply_of conf caches x).caches)
     × (broken_at (asked_by conf x.head x.block) ≡ None)
@@ -51,7 +51,7 @@ RepliesTo conf caches after x (Err faults.Memory) = Unit {0}
 RepliesTo conf caches after x (Err _) = ⊥
 
 -- a packet was answered by its frame
-abbrev pub AnswersPacket : Conf → List ListState → List ListState → Exchange → Result (List ℕ) RunFault → Type 0
+abbrev pub AnswersPacket : Options → List ListState → List ListState → Exchange → Result (List ℕ) RunFault → Type 0
 AnswersPacket conf caches after x (Ok written) =
     (written ≡ frame_of conf caches x) × (after ≡ (reply_of conf caches x).caches) × (broken_at (asked_by conf x.head x.block) ≡ None)
 AnswersPacket conf caches after x (Err (faults.BadPacket (bad.BadBlock at))) = broken_at (asked_by conf x.head x.block) ≡ Some at
@@ -59,7 +59,7 @@ AnswersPacket conf caches after x (Err faults.Memory) = Unit {0}
 AnswersPacket conf caches after x (Err _) = ⊥
 
 -- a turn that was the last: what it took, wrote and was told, and why
-pub record Stops (conf : Conf) (caches : List ListState) (src : Inflow) (snk : Outflow) (gave : List ℕ → Type 0) (fault : Option RunFault) : Type 0 where
+pub record Stops (conf : Options) (caches : List ListState) (src : Inflow) (snk : Outflow) (gave : List ℕ → Type 0) (fault : Option RunFault) : Type 0 where
   pub moment : ℕ
   pub rest : List ℕ
   pub part : List ℕ
@@ -69,7 +69,7 @@ pub record Stops (conf : Conf) (caches : List ListState) (src : Inflow) (snk : O
   pub ending : EndsBy conf (record { src = src; snk = snk; count = 0; caches = caches; rest = rest; part = part; late = moment ∷ [] }) fault
 
 -- a turn that answered a packet
-pub record Goes (conf : Conf) (caches after : List ListState) (told told_now : List Brief) (src : Inflow) (snk : Outflow) (gave : List ℕ → Type 0) : Type 0 where
+pub record Goes (conf : Options) (caches after : List ListState) (told told_now : List Brief) (src : Inflow) (snk : Outflow) (gave : List ℕ → Type 0) : Type 0 where
   pub packet : Exchange
   pub answered : IsAnswered conf packet
   pub read : Takes src.before src.now (packet_bytes packet)
@@ -79,13 +79,13 @@ pub record Goes (conf : Conf) (caches after : List ListState) (told told_now : L
   pub briefs : told_now ≡ told ++ brief_of packet ∷ []
 
 -- a turn answered a packet, or found the source at its end, or was the last by a fault
-abbrev pub Turns : Conf → List ListState → List ListState → List Brief → List Brief → Inflow → Outflow → (List ℕ → Type 0) → Result Bool RunFault → Type 0
+abbrev pub Turns : Options → List ListState → List ListState → List Brief → List Brief → Inflow → Outflow → (List ℕ → Type 0) → Result Bool RunFault → Type 0
 Turns conf caches after told told_now src snk gave (Ok true) = Goes conf caches after told told_now src snk gave
 Turns conf caches after told told_now src snk gave (Ok false) = (told_now ≡ told) × Stops conf caches src snk gave None
 Turns conf caches after told told_now src snk gave (Err fault) = (told_now ≡ told) × Stops conf caches src snk gave (Some fault)
 
 -- the packets answered so far: what was taken, written and told for them, and the caches after them
-pub record SoFar (conf : Conf) (held : List ListState) (told : List Brief) (left left_now taken taken_now : Option (List ℕ))
+pub record SoFar (conf : Options) (held : List ListState) (told : List Brief) (left left_now taken taken_now : Option (List ℕ))
     (gave : List ℕ → Type 0) (turns : ℕ) : Type 0 where
   pub packets : List Exchange
   pub answered : AllByRecursion (IsAnswered conf) packets

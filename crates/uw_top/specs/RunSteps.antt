@@ -8,13 +8,13 @@ use Rattle.uw_ends.specs.declared.ends.RunFault.TheVariants as faults
 use Rattle.uw_top.specs.Run.{ReadsText, IsNotBegun}
 
 -- a configuration was read, or why it was not
-abbrev pub GivesConf : (List ℕ → Result Conf ConfFault) → Inflow → Result Conf RunFault → Type 0
-GivesConf said r (Ok conf) = (text : List ℕ) × ReadsText r text × (said text ≡ Ok conf)
+abbrev pub GivesConf : (List ℕ → Result Conf ConfFault → Type 0) → Inflow → Result Conf RunFault → Type 0
+GivesConf said r (Ok conf) = (text : List ℕ) × ReadsText r text × said text (Ok conf)
 GivesConf said r (Err fault) = IsNotBegun said r (Some fault)
 
 -- what is made of a text: what it says, or its refusal; want of memory is free
-abbrev pub Says : Result Conf ConfFault → Result Conf RunFault → Type 0
-Says said (Ok conf) = said ≡ Ok conf
-Says said (Err (faults.Conf fault)) = said ≡ Err fault
+abbrev pub Says : (Result Conf ConfFault → Type 0) → Result Conf RunFault → Type 0
+Says said (Ok conf) = said (Ok conf)
+Says said (Err (faults.Conf fault)) = said (Err fault)
 Says said (Err faults.Memory) = Unit {0}
 Says said (Err _) = ⊥

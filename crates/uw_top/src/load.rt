@@ -2,6 +2,7 @@
 ghost use Rattle.std.specs.Prelude.{◌≡◌, ◌<◌, ◌^◌, ◌++◌, length, IfOk, OnOk};
 ghost use Rattle.std.specs.Fmt.{decimal};
 ghost use Rattle.uw_outside.specs.Streams.{outflow};
+ghost use Rattle.uw_conf.specs.Given.{options_in};
 ghost use Rattle.uw_conf.specs.Sound.{AreCaches};
 ghost use Rattle.uw_top.specs.Load.{LoadRun, block_for, command_for, figure_line, figures_text, head_for, next_number, no_figures, packet_for, variables_for, with_reply};
 ghost use Rattle.uw_top.specs.LoadSteps.{AnswersNumber, AreCounted, CanCount, WritesText};
@@ -189,7 +190,7 @@ pub fn load<K: Sink, C: Clock>(
 ) -> Option<RunFault>
     requires caches { AreCaches conf.caches }
     requires first { first < 2 ^ 31 }
-    ensures { LoadRun conf first count
+    ensures { LoadRun (options_in conf) first count
         (outflow K.taken K.faults snk.old snk.new)
         (C.gave clock.old clock.new) result }
 {

@@ -2,7 +2,7 @@
 ghost use Rattle.std.specs.Prelude.{◌≡◌, ◌<◌, ◌^◌, ◌⊎◌, [], ℕ, false, map, None, Some};
 ghost use Rattle.std.specs.String.{string_bytes};
 ghost use Rattle.uw_outside.specs.Streams.{inflow, outflow};
-ghost use Rattle.uw_conf.specs.Configuration.{configuration_of};
+ghost use Rattle.uw_conf.specs.Given.{options_in};
 ghost use Rattle.uw_conf.specs.Sound.{AreCaches};
 ghost use Rattle.uw_conf.specs.declared.conf.Conf.{Conf};
 ghost use Rattle.uw_ends.specs.declared.ends.RunFault.TheVariants as faults;
@@ -11,7 +11,7 @@ ghost use Rattle.uw_ends.specs.Ends.{status_of};
 ghost use Rattle.uw_ends.specs.Words.{command_of};
 ghost use Rattle.uw_top.specs.Load.{LoadRun};
 ghost use Rattle.uw_top.specs.Pipe.{PipeRun};
-ghost use Rattle.uw_top.specs.Run.{Runs, is_built, with_a_cache};
+ghost use Rattle.uw_top.specs.Run.{Runs, IsSaid, IsSaidWithACache, is_built};
 
 use crate::configuration::{configuration, configuration_with_a_cache};
 use crate::load::load;
@@ -21,14 +21,16 @@ use std::alloc::Global;
 use uw_conf::Conf;
 use uw_ends::{BriefList, Command, RunEnd, RunFault, WordsFault, read_words};
 use uw_outside::{Clock, Sink, Source};
+use uw_rules::Patterns;
 
-/// Does all that the program does. It reads the words of a command and a configuration. `pipe` then reads packets from
+/// Does all that the program does. It reads the words of a command and a configuration, whose patterns `make` compiles. `pipe` then reads packets from
 /// the source, answers each by one frame into the sink, at the moments of the clock, and says how it ended; `load`
 /// answers packets that it makes, and writes figures.
-pub fn run<F: Source, S: Source, K: Sink, C: Clock>(
+pub fn run<F: Source, M: Patterns, S: Source, K: Sink, C: Clock>(
     alloc: Global,
     words: &[String],
     conf: &mut F,
+    make: &mut M,
     src: &mut S,
     snk: &mut K,
     clock: &mut C,
@@ -38,31 +40,33 @@ pub fn run<F: Source, S: Source, K: Sink, C: Clock>(
     // Other words are refused, before anything is read.
     ensures usage { is_built (command_of (map string_bytes words.now)) ≡ false → (result.fault ≡ Some faults.Usage) ⊎ (result.fault ≡ Some faults.Memory) }
     ensures untouched { is_built (command_of (map string_bytes words.now)) ≡ false
-        → (conf.new ≡ conf.old) × (src.new ≡ src.old) × (snk.new ≡ snk.old) × (clock.new ≡ clock.old) × (result.briefs ≡ []) }
+        → (conf.new ≡ conf.old) × (make.new ≡ make.old) × (src.new ≡ src.old) × (snk.new ≡ snk.old) × (clock.new ≡ clock.old) × (result.briefs ≡ []) }
 
     // What was read, what was written for it, and why it ended there.
-    ensures pipes { command_of (map string_bytes words.now) ≡ Some (commands.Pipe []) → Runs configuration_of
+    ensures pipes { command_of (map string_bytes words.now) ≡ Some (commands.Pipe []) → Runs (IsSaid (M.faults make.old) (M.faults make.new))
         (inflow F.left F.ended F.faults conf.old conf.new)
         ((src.new ≡ src.old) × (snk.new ≡ snk.old) × (clock.new ≡ clock.old) × (result.briefs ≡ [])) result.fault
-        (λ c. PipeRun c
+        (λ c. PipeRun (options_in c)
         (inflow S.left S.ended S.faults src.old src.new)
         (outflow K.taken K.faults snk.old snk.new)
         (C.gave clock.old clock.new) result.briefs result.fault) }
-    ensures loads { (first count : ℕ) → command_of (map string_bytes words.now) ≡ Some (commands.Load first count) → Runs (λ text. with_a_cache (configuration_of text))
+    ensures loads { (first count : ℕ) → command_of (map string_bytes words.now) ≡ Some (commands.Load first count) → Runs (IsSaidWithACache (M.faults make.old) (M.faults make.new))
         (inflow F.left F.ended F.faults conf.old conf.new)
         ((src.new ≡ src.old) × (snk.new ≡ snk.old) × (clock.new ≡ clock.old) × (result.briefs ≡ [])) result.fault
-        (λ c. (src.new ≡ src.old) × (result.briefs ≡ []) × LoadRun c first count
+        (λ c. (src.new ≡ src.old) × (result.briefs ≡ []) × LoadRun (options_in c) first count
         (outflow K.taken K.faults snk.old snk.new)
         (C.gave clock.old clock.new) result.fault) }
 {
     match read_words(alloc, words) {
         Ok(Command::Pipe { die }) => {
             if die.as_slice().is_empty() {
-                return pipe(alloc, conf, src, snk, clock);
+                return pipe(alloc, conf, make, src, snk, clock);
             }
             refused(alloc, RunFault::Usage)
         }
-        Ok(Command::Load { first, count }) => load_over(alloc, first, count, conf, snk, clock),
+        Ok(Command::Load { first, count }) => load_over(
+            alloc, first, count, conf, make, snk, clock,
+        ),
         Ok(_) | Err(WordsFault::Usage) => refused(alloc, RunFault::Usage),
         Err(WordsFault::Memory) => refused(alloc, RunFault::Memory),
     }
@@ -76,23 +80,24 @@ fn refused(alloc: Global, fault: RunFault) -> RunEnd
 }
 
 // `pipe`, over the configuration that is read first.
-fn pipe<F: Source, S: Source, K: Sink, C: Clock>(
+fn pipe<F: Source, M: Patterns, S: Source, K: Sink, C: Clock>(
     alloc: Global,
     conf: &mut F,
+    make: &mut M,
     src: &mut S,
     snk: &mut K,
     clock: &mut C,
 ) -> RunEnd
     ensures status { result.status ≡ status_of result.fault }
-    ensures pipes { Runs configuration_of
+    ensures pipes { Runs (IsSaid (M.faults make.old) (M.faults make.new))
         (inflow F.left F.ended F.faults conf.old conf.new)
         ((src.new ≡ src.old) × (snk.new ≡ snk.old) × (clock.new ≡ clock.old) × (result.briefs ≡ [])) result.fault
-        (λ c. PipeRun c
+        (λ c. PipeRun (options_in c)
         (inflow S.left S.ended S.faults src.old src.new)
         (outflow K.taken K.faults snk.old snk.new)
         (C.gave clock.old clock.new) result.briefs result.fault) }
 {
-    match configuration(alloc, conf) {
+    match configuration(alloc, conf, make) {
         Ok(conf) => piped(alloc, conf, src, snk, clock),
         Err(fault) => refused(alloc, fault),
     }
@@ -108,7 +113,7 @@ fn piped<S: Source, K: Sink, C: Clock>(
 ) -> RunEnd
     requires { AreCaches conf.caches }
     ensures status { result.status ≡ status_of result.fault }
-    ensures pipes { PipeRun conf
+    ensures pipes { PipeRun (options_in conf)
         (inflow S.left S.ended S.faults src.old src.new)
         (outflow K.taken K.faults snk.old snk.new)
         (C.gave clock.old clock.new) result.briefs result.fault }
@@ -123,25 +128,26 @@ fn piped<S: Source, K: Sink, C: Clock>(
 }
 
 // `load`, over the configuration that is read first.
-fn load_over<F: Source, K: Sink, C: Clock>(
+fn load_over<F: Source, M: Patterns, K: Sink, C: Clock>(
     alloc: Global,
     first: u64,
     count: u64,
     conf: &mut F,
+    make: &mut M,
     snk: &mut K,
     clock: &mut C,
 ) -> RunEnd
     requires { first < 2 ^ 31 }
     ensures status { result.status ≡ status_of result.fault }
     ensures briefs { result.briefs ≡ [] }
-    ensures loads { Runs (λ text. with_a_cache (configuration_of text))
+    ensures loads { Runs (IsSaidWithACache (M.faults make.old) (M.faults make.new))
         (inflow F.left F.ended F.faults conf.old conf.new)
         ((snk.new ≡ snk.old) × (clock.new ≡ clock.old)) result.fault
-        (λ c. LoadRun c first count
+        (λ c. LoadRun (options_in c) first count
         (outflow K.taken K.faults snk.old snk.new)
         (C.gave clock.old clock.new) result.fault) }
 {
-    match configuration_with_a_cache(alloc, conf) {
+    match configuration_with_a_cache(alloc, conf, make) {
         Ok(conf) => {
             let fault = load(alloc, conf, first, count, snk, clock);
             RunEnd::new(fault, BriefList::new(alloc))

@@ -4,6 +4,7 @@ ghost use Rattle.std.specs.List.{AllByRecursion};
 ghost use Rattle.uw_model.specs.Caches.{empty_caches};
 ghost use Rattle.uw_model.specs.Entries.{IsCacheConf};
 ghost use Rattle.uw_cachecmd.specs.Replies.{reply_text};
+ghost use Rattle.uw_conf.specs.Given.{options_in};
 ghost use Rattle.uw_ends.specs.declared.ends.RunFault.TheVariants as faults;
 ghost use Rattle.uw_top.specs.Exchange.{frame, refusal_of};
 ghost use Rattle.uw_top.specs.PipeSteps.{AnswersPacket, RepliesTo};
@@ -19,7 +20,7 @@ use uw_model::{Answer, Ask, Desk, ListDesk};
 use uw_outside::Immortal;
 use uw_packet::{Header, Packet};
 
-/// Answers packets over the caches of a configuration. Contracts see the configuration and the caches.
+/// Answers packets over the caches of a configuration. Contracts see its options and the caches.
 #[derive(Drop)]
 pub struct Server {
     conf: Conf,
@@ -28,11 +29,12 @@ pub struct Server {
 
 impl Model for Server {
     ghost use Rattle.std.specs.Prelude.{◌≡◌, ◌≤◌, length};
+    ghost use Rattle.uw_conf.specs.Given.{options_in};
     ghost use Rattle.uw_top.specs.ServerSteps.{Serving};
 
     ghost Value = { Serving };
 
-    ghost view = { λ s. record { conf = s.conf; caches = s.desk.caches } };
+    ghost view = { λ s. record { conf = options_in s.conf; caches = s.desk.caches } };
 
     ghost invariant = { λ s. (length s.desk.caches ≡ length s.conf.caches) × (length s.conf.caches ≤ 16) };
 }
@@ -49,7 +51,7 @@ impl Server {
     pub fn new(alloc: Global, conf: Conf) -> Result<Server, Memory>
         requires each { AllByRecursion IsCacheConf conf.caches }
         requires few { length conf.caches ≤ 16 }
-        ensures { IfOk result (λ s. s ≡ record { conf = conf; caches = empty_caches conf.caches }) }
+        ensures { IfOk result (λ s. s ≡ record { conf = options_in conf; caches = empty_caches conf.caches }) }
     {
         let desk = ListDesk::new(alloc, &conf.caches)?;
         Ok(Server { conf, desk })

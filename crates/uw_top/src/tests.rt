@@ -3,14 +3,17 @@ use crate::{RunEnd, fault_text, run};
 use std::alloc::{AllocError, Global};
 use std::test::Fail;
 use uw_outside::{BytesIn, BytesOut, FixedClock};
+use uw_rules::RegexPatterns;
 
-// A run: its words, its configuration and input, the reads and writes that fail, and what comes of it.
+// A run: its words, its configuration and input, the reads and writes that fail, the patterns that are refused, and what
+// comes of it.
 #[derive(Clone, Copy)]
 struct Case {
     words: &'static [&'static str],
     conf: &'static [u8],
     input: &'static [u8],
     conf_fails: &'static [u64],
+    patterns_refused: &'static [u64],
     read_fails: &'static [u64],
     write_fails: &'static [u64],
     output: &'static [u8],
@@ -37,6 +40,7 @@ fn ran(alloc: Global, case: &Case, input: &[u8], moments: &[u64]) -> Result<Repo
         asked.push(10)?;
     }
     let mut conf = BytesIn::new(case.conf.to_vec(alloc)?, case.conf_fails.to_vec(alloc)?);
+    let mut make = RegexPatterns::new(case.patterns_refused.to_vec(alloc)?);
     let mut src = BytesIn::new(input.to_vec(alloc)?, case.read_fails.to_vec(alloc)?);
     let mut snk = BytesOut::new(Vec::new(alloc), case.write_fails.to_vec(alloc)?);
     let mut clock = FixedClock::new(asked);
@@ -44,6 +48,7 @@ fn ran(alloc: Global, case: &Case, input: &[u8], moments: &[u64]) -> Result<Repo
         alloc,
         words.as_slice(),
         &mut conf,
+        &mut make,
         &mut src,
         &mut snk,
         &mut clock,
@@ -77,6 +82,7 @@ const PIPE: Case = Case {
     conf: ONE_CACHE,
     input: b"",
     conf_fails: &[],
+    patterns_refused: &[],
     read_fails: &[],
     write_fails: &[],
     output: b"",
@@ -84,8 +90,34 @@ const PIPE: Case = Case {
     text: b"",
 };
 
-const CASES: [Case; 41] = [
+const CASES: [Case; 45] = [
     PIPE,
+    // Rules that are refused, and rules that are taken.
+    Case {
+        conf: b"[uwsgi]\nroute-label = a\nroute-run = goto:a\n",
+        status: 2,
+        text: b"conf line 3: LabelNotAhead",
+        ..PIPE
+    },
+    Case {
+        conf: b"[uwsgi]\nroute = a break\n",
+        patterns_refused: &[1],
+        status: 2,
+        text: b"conf line 2: PatternRefused",
+        ..PIPE
+    },
+    Case {
+        conf: b"[uwsgi]\nroute-run = cachedel:key=a\nworkers = 0\n",
+        status: 2,
+        text: b"conf line 2: UnknownName",
+        ..PIPE
+    },
+    Case {
+        conf: b"[uwsgi]\nroute-run = cachedel:key=a\ncache2 = name=c,items=4\n",
+        input: SET_AND_GET,
+        output: OK_AND_VALUE,
+        ..PIPE
+    },
     Case {
         input: SET_AND_GET,
         output: OK_AND_VALUE,

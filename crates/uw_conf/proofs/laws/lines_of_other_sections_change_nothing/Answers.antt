@@ -1,9 +1,6 @@
-use Rattle.std.proofs.Common.{ap, Result, append_assoc}
-use Rattle.uw_conf.specs.declared.conf.ConfFault.{ConfFault}
-use Rattle.uw_conf.specs.Configuration.{ReadSoFar, blank_reading, conf_read}
-use Rattle.uw_conf.proofs.OtherSectionLemmas.{replaced}
+use Rattle.std.proofs.Common.{append_assoc}
+use Rattle.uw_conf.proofs.OtherSectionLemmas.{said_replaced}
 use Rattle.uw_conf.proofs.laws.lines_of_other_sections_change_nothing.Goals as goal
 
 pub returns : goal.returns
-returns c front others more back outside plain also same =
-    rw (append_assoc, append_assoc) (ap (λ (x : Result ReadSoFar ConfFault). conf_read x) (replaced blank_reading 1 front others more back outside plain also same))
+returns c front others more back outside plain also same = rw (append_assoc, append_assoc) (said_replaced front others more back outside plain also same)

@@ -1,8 +1,33 @@
-use Rattle.std.proofs.Common.{inr, refl}
-use Rattle.uw_top.proofs.Configuring.{nothing_read}
+use Rattle.std.proofs.Common.{◌≡◌, ℕ, Some, inr, refl, sym, ap, ◌∙◌, subst}
+use Rattle.uw_outside.specs.Streams.{outflow}
+use Rattle.uw_conf.specs.Given.{options_in}
+use Rattle.uw_ends.specs.declared.words.Command.TheVariants as commands
+use Rattle.uw_top.specs.Load.{LoadRun}
+use Rattle.uw_top.specs.Run.{IsSaidWithACache}
+use Rattle.uw_top.proofs.Configuring.{nothing_read, runs_map}
 use Rattle.uw_top.proofs.runs.run.Goals as goal
 
 -- there was no memory to read the words
 pub returns-in-Err-Memory-clause-loads : goal.returns-in-Err-Memory-clause-loads
 returns-in-Err-Memory-clause-loads g c =
     λ first count words. rw c.refused-in-Err-Memory.ensures (inr (nothing_read _, (refl, refl, refl, refl)))
+
+pub returns-in-Err-Memory-clause-pipes : goal.returns-in-Err-Memory-clause-pipes
+returns-in-Err-Memory-clause-pipes g c =
+    λ words. rw c.refused-in-Err-Memory.ensures (inr (nothing_read _, (refl, refl, refl, refl)))
+
+pub returns-in-Ok-Load-clause-loads : goal.returns-in-Ok-Load-clause-loads
+returns-in-Ok-Load-clause-loads g c = λ first count words.
+    let same : Some (commands.Load c.in-Ok-Load.first c.in-Ok-Load.count) ≡ Some (commands.Load first count) = ap Some (sym c.in-Ok-Load.field-0-is) ∙ sym c.in-Ok-Load.ensures.command ∙ words in
+    let from : c.in-Ok-Load.first ≡ first = cc in
+    let many : c.in-Ok-Load.count ≡ count = cc in
+    runs_map (IsSaidWithACache (g.M.Patterns.faults c.args.make.now) (g.M.Patterns.faults c.load_over.new.make)) _ _ _ _ _ _ (λ same. (refl, same.0, same.1, c.load_over.ensures.briefs))
+    (λ conf ran. (
+      refl,
+      c.load_over.ensures.briefs,
+      subst (λ (n : ℕ). LoadRun (options_in conf) n count
+          (outflow g.K.Sink.taken g.K.Sink.faults c.args.snk.now c.load_over.new.snk) (g.C.Clock.gave c.args.clock.now c.load_over.new.clock) c.load_over.result.fault) from
+          (subst (λ (n : ℕ). LoadRun (options_in conf) c.in-Ok-Load.first n
+          (outflow g.K.Sink.taken g.K.Sink.faults c.args.snk.now c.load_over.new.snk) (g.C.Clock.gave c.args.clock.now c.load_over.new.clock) c.load_over.result.fault) many ran),
+    ))
+    c.load_over.ensures.loads

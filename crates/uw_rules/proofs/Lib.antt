@@ -1,0 +1,8 @@
+mod PatternLemmas
+pub mod ArgumentLemmas
+pub mod CompileLemmas
+pub mod LabelLemmas
+pub mod RefusalLemmas
+pub mod LineLemmas
+pub mod TableLemmas
+pub mod LawLemmas

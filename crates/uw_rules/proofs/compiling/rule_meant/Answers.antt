@@ -1,0 +1,10 @@
+use Rattle.std.proofs.Common.{sym, ap, ◌∙◌}
+use Rattle.uw_rules.specs.GrammarSteps.{row_seen}
+use Rattle.uw_rules.proofs.CompileLemmas.{action_taken}
+use Rattle.uw_rules.proofs.compiling.rule_meant.Goals as goal
+
+pub action_meant-requires-clause-good : goal.action_meant-requires-clause-good
+action_meant-requires-clause-good c =
+    let taken = rw c.in-Rule.is at c.requires.taken in
+    let found = sym c.action_of.ensures ∙ ap row_seen c.in-Some.is in
+    action_taken _ _ _ found taken.1

@@ -1,0 +1,14 @@
+pub mod Patterns
+pub mod RegexPatterns
+pub mod Grammar
+pub mod Arguments
+pub mod WrittenRules
+pub mod Rules
+pub mod Compiled
+pub mod Tables
+pub mod GrammarSteps
+pub mod CheckSteps
+pub mod WrittenSteps
+pub mod CompileSteps
+pub mod LabelSteps
+pub mod TableSteps

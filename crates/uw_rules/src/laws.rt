@@ -1,0 +1,25 @@
+//! Laws of the definitions, over all tables. Each is the contract of a function that does nothing.
+ghost use Rattle.std.specs.Prelude.{◌≡◌, ◌<◌, ℕ, List, Some, None, true, false, slice_get};
+ghost use Rattle.uw_rules.specs.declared.grammar.ActionName.TheVariants as actions;
+ghost use Rattle.uw_rules.specs.declared.lines.RuleLine.{RuleLine};
+ghost use Rattle.uw_rules.specs.Arguments.{is_ahead, is_label};
+ghost use Rattle.uw_rules.specs.Grammar.{ArgumentShape, action_of};
+ghost use Rattle.uw_rules.specs.Rules.{place_of_label, rule_refusal_at, table_of};
+ghost use Rattle.uw_rules.specs.WrittenRules.{Phrase, WrittenTest, label, rule};
+
+/// The place of a label is ahead of a rule exactly where a later line that is not refused is that label.
+pub fn a_label_ahead_is_a_later_line_that_is_not_refused()
+    ensures ahead { (names : List (List ℕ)) (lines : List RuleLine) (here : ℕ) (text : List ℕ) → is_label text ≡ true
+        → is_ahead here (place_of_label lines text) ≡ true
+        → (there : ℕ) × (here < there) × (slice_get (table_of lines) there ≡ Some (label text)) × (rule_refusal_at names lines there false ≡ None) }
+    ensures later { (names : List (List ℕ)) (lines : List RuleLine) (here there : ℕ) (text : List ℕ) → here < there
+        → slice_get (table_of lines) there ≡ Some (label text) → rule_refusal_at names lines there false ≡ None
+        → is_ahead here (place_of_label lines text) ≡ true }
+{}
+
+/// The label of a `goto` that is not refused is ahead.
+pub fn a_goto_leads_ahead()
+    ensures { (names : List (List ℕ)) (lines : List RuleLine) (here : ℕ) (test : WrittenTest) (action : Phrase) (shape : ArgumentShape) (text : List ℕ)
+        → slice_get (table_of lines) here ≡ Some (rule test action) → action_of action.name ≡ Some (actions.Goto, shape) → action.argument ≡ Some text
+        → rule_refusal_at names lines here false ≡ None → is_ahead here (place_of_label lines text) ≡ true }
+{}

@@ -1,0 +1,30 @@
+//! Rules: what a table of lines says, compiled, or its first refused line.
+#![tactic(auto)]
+
+mod arguments;
+mod checks;
+pub mod compiled;
+mod compiling;
+mod grammar;
+mod judging;
+mod kinds;
+mod labels;
+pub mod laws;
+mod lines;
+pub mod patterns;
+mod reading;
+pub mod regex_patterns;
+mod written;
+
+pub use compiled::{Action, Condition, Rule, RuleTable, Test};
+pub use grammar::{Subject, is_rule_option};
+pub use kinds::{RuleKind, RulesError};
+pub use lines::{RuleLine, RuleLineList};
+pub use patterns::{Built, Patterns};
+pub use reading::read_rules;
+pub use regex_patterns::RegexPatterns;
+
+#[cfg(test)]
+mod pattern_tests;
+#[cfg(test)]
+mod tests;
