@@ -1,8 +1,7 @@
 -- Labels and the lines that have them.
-use Rattle.std.proofs.Common.{◌≡◌, ℕ, zero, suc, ◌+◌, ◌-◌, ◌<◌, ◌≤◌, Bool, true, false, not, ◌||◌, cond, nat_le, nat_lt, List, [], ◌∷◌, length, take, refl, sym, ap, ◌∙◌, subst, arith, Option, Some, None, option_and_then}
+use Rattle.std.proofs.Common.{◌≡◌, ℕ, zero, suc, ◌+◌, ◌-◌, ◌<◌, ◌≤◌, Bool, true, false, not, cond, nat_le, nat_lt, List, [], ◌∷◌, length, take, refl, sym, ap, ◌∙◌, subst, arith, Option, Some, None, option_and_then}
 use Rattle.std.specs.List.{list_any, position_from, slice_get}
 use Rattle.std.specs.Option.{option_map, option_map_or}
-use Rattle.std.specs.Str.{bytes_eq}
 use Rattle.std.proofs.lemmas.Bool.Decides.{nat_tests}
 use Rattle.std.proofs.lemmas.List.{length-map, length-take}
 use Rattle.std.proofs.lemmas.Option.{slice_get-map, slice_get_within}
@@ -15,7 +14,7 @@ use Rattle.uw_rules.specs.declared.grammar.ActionName.TheVariants as actions
 use Rattle.uw_rules.specs.Arguments.{is_ahead, is_label, is_missed_label, places_of}
 use Rattle.uw_rules.specs.Grammar.{ArgumentShape, action_of}
 use Rattle.uw_rules.specs.WrittenRules.{Phrase, WrittenTest, WrittenRule, unparted, label, rule, rule_of_line}
-use Rattle.uw_rules.specs.Rules.{any_text, any_text_of_test, early_refusal, first_of_two, has_bad_pattern, has_bad_template, has_pattern, has_unknown_action, has_unknown_condition, has_unknown_name, is_bad_rule, is_label_of, is_label_twice, late_refusal, misses_label, pattern_refusal, place_of_label, refusal_of_rule, rule_refusal_at, table_of}
+use Rattle.uw_rules.specs.Rules.{any_text_of_test, early_refusal, first_of_two, has_bad_pattern, has_bad_template, has_unknown_action, has_unknown_condition, has_unknown_name, is_bad_rule, is_label_of, is_label_twice, late_refusal, misses_label, pattern_refusal, place_of_label, refusal_of_rule, rule_refusal_at, table_of}
 use Rattle.uw_rules.specs.CompileSteps.{action_shape}
 use Rattle.uw_rules.proofs.CompileLemmas.{action_has_shape}
 use Rattle.uw_rules.proofs.RefusalLemmas.{both_false, late, passed}

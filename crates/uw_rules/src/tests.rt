@@ -189,186 +189,189 @@ const TAKEN: [(&[u8], &[u8]); 58] = [
 
 #[test]
 fn each_form_is_taken(rt: HostRuntime) -> Result<(), Fail> {
-    for (form, text) in TAKEN {
-        assert_eq!(rt; kind(&rt, rt.alloc(), form, text)?, None, "{text:?}");
+    expect(&rt, rt.alloc(), &TAKEN, None)?;
+    Ok(())
+}
+
+const BAD_TESTS: [(&[u8], &[u8]); 21] = [
+    (b"route", b"^/a"),
+    (b"route", b""),
+    (b"route-if", b"empty:a"),
+    (b"route-if-not", b"empty:"),
+    (b"route-label", b""),
+    (b"route-label", b"a b"),
+    (b"route-label", b"a$"),
+    (
+        b"route-label",
+        b"01234567890123456789012345678901234567890123456789012345678901234",
+    ),
+    (b"route-if", b"equal continue"),
+    (b"route-if", b"equal: continue"),
+    (b"route-if", b"equal:a continue"),
+    (b"route-if", b"equal:a b;c"),
+    (b"route-if", b"empty continue"),
+    (b"route-if", b"empty:a;b continue"),
+    (b"route-if", b"empty:; continue"),
+    (b"route-if", b"regexp:a continue"),
+    (b"route-if", b"incache continue"),
+    (b"route-if", b"incache:name=a continue"),
+    (b"route-if", b"incache:key=k,var=v continue"),
+    (b"route-if", b"nothing:a;b return:1"),
+    (b"route", b"*"),
+];
+
+const BAD_ACTIONS: [(&[u8], &[u8]); 20] = [
+    (b"route-run", b"continue:"),
+    (b"route-run", b"last:x"),
+    (b"route-run", b"return"),
+    (b"route-run", b"return:"),
+    (b"route-run", b"return:201"),
+    (b"route-run", b"return:200 OK"),
+    (b"route-run", b"return:000000000000000000200"),
+    (b"route-run", b"goto"),
+    (b"route-run", b"goto:"),
+    (b"route-run", b"goto:a b"),
+    (b"route-run", b"goto:a$"),
+    (b"route-run", b"redirect"),
+    (b"route-run", b"redirect-permanent"),
+    (b"route-run", b"rewrite"),
+    (b"route-run", b"send"),
+    (b"route-run", b"addvar"),
+    (b"route-run", b"addvar:"),
+    (b"route-run", b"addvar:K"),
+    (b"route-run", b"addheader:"),
+    (b"route-run", b"addheader:X"),
+];
+
+const BAD_PAIRS: [(&[u8], &[u8]); 24] = [
+    (b"route-run", b"cache"),
+    (b"route-run", b"cache:"),
+    (b"route-run", b"cache:key"),
+    (b"route-run", b"cache:name=a"),
+    (b"route-run", b"cache:key=k,"),
+    (b"route-run", b"cache:,key=k"),
+    (b"route-run", b"cache:key=k,,name=a"),
+    (b"route-run", b"cache: key=k"),
+    (b"route-run", b"cache:key=k,key=k"),
+    (b"route-run", b"cache:key=k,value=v"),
+    (b"route-run", b"cache:key=k,var=v"),
+    (b"route-run", b"cachevar:key=k"),
+    (b"route-run", b"cachevar:key=k,var=v,expires=1"),
+    (b"route-run", b"cacheset:key=k"),
+    (b"route-run", b"cacheset:value=v"),
+    (b"route-run", b"cacheset:key=k,value=v,expires="),
+    (b"route-run", b"cacheset:key=k,value=v,expires=-1"),
+    (
+        b"route-run",
+        b"cacheset:key=k,value=v,expires=18446744073709551616",
+    ),
+    (b"route-run", b"cacheset:key=k,value=v,amount=1"),
+    (b"route-run", b"cachedel:key=k,value=v"),
+    (b"route-run", b"cacheinc:key=k,amount="),
+    (b"route-run", b"cacheinc:key=k,amount=x"),
+    (b"route-run", b"cacheinc:key=k,amount=9223372036854775808"),
+    (b"route-run", b"cacheinc:key=k,by=1"),
+];
+
+const UNKNOWN_CONDITIONS: [(&[u8], &[u8]); 5] = [
+    (b"route-if", b"nothing continue"),
+    (b"route-if", b" continue"),
+    (b"route-if", b":a continue"),
+    (b"route-if", b"Empty:a continue"),
+    (b"route-if-not", b"empty=a continue"),
+];
+
+const BAD_PATTERNS: [(&[u8], &[u8]); 3] = [
+    (b"route", b"( continue"),
+    (b"route", b"* nothing"),
+    (b"route-if", b"regexp:a;[ continue"),
+];
+
+const REFUSED_PATTERNS: [(&[u8], &[u8]); 1] = [(b"route", b"(a{1000}){1000} continue")];
+
+const UNKNOWN_ACTIONS: [(&[u8], &[u8]); 8] = [
+    (b"route", b"^/a "),
+    (b"route", b"^/a :x"),
+    (b"route-run", b""),
+    (b"route-run", b"CONTINUE"),
+    (b"route-run", b"spool:a=b"),
+    (b"route-run", b"spool-end:0"),
+    (b"route-run", b"arearead:area=0,at=0,len=1,var=v"),
+    (b"route-if", b"empty:${ nothing"),
+];
+
+const BAD_TEMPLATES: [(&[u8], &[u8]); 7] = [
+    (b"route-run", b"send:${"),
+    (b"route-run", b"addheader:X: ${}"),
+    (b"route-run", b"addvar:${=${a]}"),
+    (b"route-run", b"cacheset:key=k,value=${time[x]}"),
+    (b"route-if", b"empty:${x[y]} continue"),
+    (b"route-if", b"regexp:${;a continue"),
+    (b"route-if", b"equal:a;${httptime[x]} goto:x"),
+];
+
+const LABELS_NOT_AHEAD: [(&[u8], &[u8]); 2] = [
+    (b"route-run", b"goto:x"),
+    (b"route-if", b"incache:key=k,name=c goto:x"),
+];
+
+const UNKNOWN_NAMES: [(&[u8], &[u8]); 3] = [
+    (b"route-if", b"incache:key=k,name=c continue"),
+    (b"route-run", b"cache:key=k,name="),
+    (b"route-run", b"cachedel:key=k,name=A"),
+];
+
+// Whether each line has this refusal, or none, alone in its table.
+fn expect(
+    rt: &impl Abort,
+    alloc: Global,
+    rows: &[(&[u8], &[u8])],
+    want: Option<RuleKind>,
+) -> Result<(), Memory> {
+    for (form, text) in rows {
+        assert_eq!(rt; kind(rt, alloc, form, text)?, want, "{text:?}");
     }
     Ok(())
 }
 
-const REFUSED: [(&[u8], &[u8], RuleKind); 94] = [
-    (b"route", b"^/a", RuleKind::BadRule),
-    (b"route", b"", RuleKind::BadRule),
-    (b"route-if", b"empty:a", RuleKind::BadRule),
-    (b"route-if-not", b"empty:", RuleKind::BadRule),
-    (b"route-label", b"", RuleKind::BadRule),
-    (b"route-label", b"a b", RuleKind::BadRule),
-    (b"route-label", b"a$", RuleKind::BadRule),
-    (
-        b"route-label",
-        b"01234567890123456789012345678901234567890123456789012345678901234",
-        RuleKind::BadRule,
-    ),
-    (b"route-run", b"continue:", RuleKind::BadRule),
-    (b"route-run", b"last:x", RuleKind::BadRule),
-    (b"route-run", b"return", RuleKind::BadRule),
-    (b"route-run", b"return:", RuleKind::BadRule),
-    (b"route-run", b"return:201", RuleKind::BadRule),
-    (b"route-run", b"return:200 OK", RuleKind::BadRule),
-    (
-        b"route-run",
-        b"return:000000000000000000200",
-        RuleKind::BadRule,
-    ),
-    (b"route-run", b"goto", RuleKind::BadRule),
-    (b"route-run", b"goto:", RuleKind::BadRule),
-    (b"route-run", b"goto:a b", RuleKind::BadRule),
-    (b"route-run", b"goto:a$", RuleKind::BadRule),
-    (b"route-run", b"redirect", RuleKind::BadRule),
-    (b"route-run", b"redirect-permanent", RuleKind::BadRule),
-    (b"route-run", b"rewrite", RuleKind::BadRule),
-    (b"route-run", b"send", RuleKind::BadRule),
-    (b"route-run", b"addvar", RuleKind::BadRule),
-    (b"route-run", b"addvar:", RuleKind::BadRule),
-    (b"route-run", b"addvar:K", RuleKind::BadRule),
-    (b"route-run", b"addheader:", RuleKind::BadRule),
-    (b"route-run", b"addheader:X", RuleKind::BadRule),
-    (b"route-run", b"cache", RuleKind::BadRule),
-    (b"route-run", b"cache:", RuleKind::BadRule),
-    (b"route-run", b"cache:key", RuleKind::BadRule),
-    (b"route-run", b"cache:name=a", RuleKind::BadRule),
-    (b"route-run", b"cache:key=k,", RuleKind::BadRule),
-    (b"route-run", b"cache:,key=k", RuleKind::BadRule),
-    (b"route-run", b"cache:key=k,,name=a", RuleKind::BadRule),
-    (b"route-run", b"cache: key=k", RuleKind::BadRule),
-    (b"route-run", b"cache:key=k,key=k", RuleKind::BadRule),
-    (b"route-run", b"cache:key=k,value=v", RuleKind::BadRule),
-    (b"route-run", b"cache:key=k,var=v", RuleKind::BadRule),
-    (b"route-run", b"cachevar:key=k", RuleKind::BadRule),
-    (
-        b"route-run",
-        b"cachevar:key=k,var=v,expires=1",
-        RuleKind::BadRule,
-    ),
-    (b"route-run", b"cacheset:key=k", RuleKind::BadRule),
-    (b"route-run", b"cacheset:value=v", RuleKind::BadRule),
-    (
-        b"route-run",
-        b"cacheset:key=k,value=v,expires=",
-        RuleKind::BadRule,
-    ),
-    (
-        b"route-run",
-        b"cacheset:key=k,value=v,expires=-1",
-        RuleKind::BadRule,
-    ),
-    (
-        b"route-run",
-        b"cacheset:key=k,value=v,expires=18446744073709551616",
-        RuleKind::BadRule,
-    ),
-    (
-        b"route-run",
-        b"cacheset:key=k,value=v,amount=1",
-        RuleKind::BadRule,
-    ),
-    (b"route-run", b"cachedel:key=k,value=v", RuleKind::BadRule),
-    (b"route-run", b"cacheinc:key=k,amount=", RuleKind::BadRule),
-    (b"route-run", b"cacheinc:key=k,amount=x", RuleKind::BadRule),
-    (
-        b"route-run",
-        b"cacheinc:key=k,amount=9223372036854775808",
-        RuleKind::BadRule,
-    ),
-    (b"route-run", b"cacheinc:key=k,by=1", RuleKind::BadRule),
-    (b"route-if", b"equal continue", RuleKind::BadRule),
-    (b"route-if", b"equal: continue", RuleKind::BadRule),
-    (b"route-if", b"equal:a continue", RuleKind::BadRule),
-    (b"route-if", b"equal:a b;c", RuleKind::BadRule),
-    (b"route-if", b"empty continue", RuleKind::BadRule),
-    (b"route-if", b"empty:a;b continue", RuleKind::BadRule),
-    (b"route-if", b"empty:; continue", RuleKind::BadRule),
-    (b"route-if", b"regexp:a continue", RuleKind::BadRule),
-    (b"route-if", b"incache continue", RuleKind::BadRule),
-    (b"route-if", b"incache:name=a continue", RuleKind::BadRule),
-    (
-        b"route-if",
-        b"incache:key=k,var=v continue",
-        RuleKind::BadRule,
-    ),
-    (b"route-if", b"nothing:a;b return:1", RuleKind::BadRule),
-    (b"route-if", b"nothing continue", RuleKind::UnknownCondition),
-    (b"route-if", b" continue", RuleKind::UnknownCondition),
-    (b"route-if", b":a continue", RuleKind::UnknownCondition),
-    (b"route-if", b"Empty:a continue", RuleKind::UnknownCondition),
-    (
-        b"route-if-not",
-        b"empty=a continue",
-        RuleKind::UnknownCondition,
-    ),
-    (b"route", b"( continue", RuleKind::BadPattern),
-    (b"route", b"*", RuleKind::BadRule),
-    (b"route", b"* nothing", RuleKind::BadPattern),
-    (b"route-if", b"regexp:a;[ continue", RuleKind::BadPattern),
-    (
-        b"route",
-        b"(a{1000}){1000} continue",
-        RuleKind::PatternRefused,
-    ),
-    (b"route", b"^/a ", RuleKind::UnknownAction),
-    (b"route", b"^/a :x", RuleKind::UnknownAction),
-    (b"route-run", b"", RuleKind::UnknownAction),
-    (b"route-run", b"CONTINUE", RuleKind::UnknownAction),
-    (b"route-run", b"spool:a=b", RuleKind::UnknownAction),
-    (b"route-run", b"spool-end:0", RuleKind::UnknownAction),
-    (
-        b"route-run",
-        b"arearead:area=0,at=0,len=1,var=v",
-        RuleKind::UnknownAction,
-    ),
-    (b"route-if", b"empty:${ nothing", RuleKind::UnknownAction),
-    (b"route-run", b"send:${", RuleKind::BadTemplate),
-    (b"route-run", b"addheader:X: ${}", RuleKind::BadTemplate),
-    (b"route-run", b"addvar:${=${a]}", RuleKind::BadTemplate),
-    (
-        b"route-run",
-        b"cacheset:key=k,value=${time[x]}",
-        RuleKind::BadTemplate,
-    ),
-    (
-        b"route-if",
-        b"empty:${x[y]} continue",
-        RuleKind::BadTemplate,
-    ),
-    (b"route-if", b"regexp:${;a continue", RuleKind::BadTemplate),
-    (
-        b"route-if",
-        b"equal:a;${httptime[x]} goto:x",
-        RuleKind::BadTemplate,
-    ),
-    (b"route-run", b"goto:x", RuleKind::LabelNotAhead),
-    (
-        b"route-if",
-        b"incache:key=k,name=c goto:x",
-        RuleKind::LabelNotAhead,
-    ),
-    (
-        b"route-if",
-        b"incache:key=k,name=c continue",
-        RuleKind::UnknownName,
-    ),
-    (b"route-run", b"cache:key=k,name=", RuleKind::UnknownName),
-    (
-        b"route-run",
-        b"cachedel:key=k,name=A",
-        RuleKind::UnknownName,
-    ),
-];
+#[test]
+fn a_bad_rule_comes_before_all_others(rt: HostRuntime) -> Result<(), Fail> {
+    let bad = Some(RuleKind::BadRule);
+    expect(&rt, rt.alloc(), &BAD_TESTS, bad)?;
+    expect(&rt, rt.alloc(), &BAD_ACTIONS, bad)?;
+    expect(&rt, rt.alloc(), &BAD_PAIRS, bad)?;
+    Ok(())
+}
 
 #[test]
-fn each_refusal_comes_in_its_order(rt: HostRuntime) -> Result<(), Fail> {
-    for (form, text, want) in REFUSED {
-        assert_eq!(rt; kind(&rt, rt.alloc(), form, text)?, Some(want), "{text:?}");
-    }
+fn refusals_come_in_their_order(rt: HostRuntime) -> Result<(), Fail> {
+    expect(
+        &rt,
+        rt.alloc(),
+        &UNKNOWN_CONDITIONS,
+        Some(RuleKind::UnknownCondition),
+    )?;
+    expect(&rt, rt.alloc(), &BAD_PATTERNS, Some(RuleKind::BadPattern))?;
+    expect(
+        &rt,
+        rt.alloc(),
+        &REFUSED_PATTERNS,
+        Some(RuleKind::PatternRefused),
+    )?;
+    expect(
+        &rt,
+        rt.alloc(),
+        &UNKNOWN_ACTIONS,
+        Some(RuleKind::UnknownAction),
+    )?;
+    expect(&rt, rt.alloc(), &BAD_TEMPLATES, Some(RuleKind::BadTemplate))?;
+    expect(
+        &rt,
+        rt.alloc(),
+        &LABELS_NOT_AHEAD,
+        Some(RuleKind::LabelNotAhead),
+    )?;
+    expect(&rt, rt.alloc(), &UNKNOWN_NAMES, Some(RuleKind::UnknownName))?;
     Ok(())
 }
 
