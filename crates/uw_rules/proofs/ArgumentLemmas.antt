@@ -4,7 +4,7 @@ use Rattle.std.proofs.lemmas.List.{length-take}
 use Rattle.std.specs.Borrow.{Bor}
 use Rattle.std.specs.List.{AllByRecursion, after_first, list_any, onto_first, position_or_len, slice_split}
 use Rattle.std.specs.Option.{option_copied}
-use Rattle.uw_rules.specs.Arguments.{argument_pairs, first_half, is_pair_of, second_half, text_at, text_in}
+use Rattle.uw_rules.specs.Arguments.{argument_pairs, first_half, is_pair_of, second_half, text_of_key, text_in}
 use Rattle.uw_rules.specs.CheckSteps.{IsShortText}
 use Rattle.uw_rules.specs.GrammarSteps.{pairs_left}
 
@@ -51,8 +51,8 @@ below n None small h = tt
 below n (Some text) small h = omega arith
 
 -- the text of a key of a short argument is short
-pub text_at_short : (key : List ℕ) (argument : Option (List ℕ)) → IsShortText argument → IsShortText (text_at key argument)
-unfolding text_at argument_pairs
+pub text_at_short : (key : List ℕ) (argument : Option (List ℕ)) → IsShortText argument → IsShortText (text_of_key key argument)
+unfolding text_of_key argument_pairs
 text_at_short key None h = tt
 text_at_short key (Some text) h =
     below (length text) (text_in key (slice_split (λ byte. byte == 44) text)) h

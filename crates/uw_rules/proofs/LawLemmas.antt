@@ -11,7 +11,7 @@ use Rattle.uw_rules.specs.declared.kinds.RuleKind.TheVariants as kinds
 use Rattle.uw_rules.specs.declared.lines.RuleLine.{RuleLine}
 use Rattle.uw_rules.specs.declared.grammar.ActionName.{ActionName}
 use Rattle.uw_rules.specs.declared.grammar.ActionName.TheVariants as actions
-use Rattle.uw_rules.specs.Arguments.{is_ahead, is_label, is_missed_label, places_of}
+use Rattle.uw_rules.specs.Arguments.{is_ahead, is_label, is_missed_label, text_places}
 use Rattle.uw_rules.specs.Grammar.{ArgumentShape, action_of}
 use Rattle.uw_rules.specs.WrittenRules.{Phrase, WrittenTest, WrittenRule, unparted, label, rule, rule_of_line}
 use Rattle.uw_rules.specs.Rules.{any_text_of_test, early_refusal, first_of_two, has_bad_pattern, has_bad_template, has_unknown_action, has_unknown_condition, has_unknown_name, is_bad_rule, is_label_of, is_label_twice, late_refusal, misses_label, pattern_refusal, place_of_label, refusal_of_rule, rule_refusal_at, table_of}
@@ -190,12 +190,12 @@ goto_ahead names lines here test action shape text at known says free =
     let once = passed (is_label_twice labels here said) _ _ good.1 in
     let missed = passed (misses_label labels here said) _ _ once.1 in
     let missed_action = (both_false (any_text_of_test (is_missed_label labels here) test) _ missed.0).1 in
-    let of_row : list_any (is_missed_label labels here) (places_of shape action.argument) ≡ false =
-    subst (λ (row : Option (ActionName × ArgumentShape)). option_map_or (λ (k : ActionName × ArgumentShape). list_any (is_missed_label labels here) (places_of k.1 action.argument)) row false ≡ false)
+    let of_row : list_any (is_missed_label labels here) (text_places shape action.argument) ≡ false =
+    subst (λ (row : Option (ActionName × ArgumentShape)). option_map_or (λ (k : ActionName × ArgumentShape). list_any (is_missed_label labels here) (text_places k.1 action.argument)) row false ≡ false)
     known missed_action in
-    let of_shape : list_any (is_missed_label labels here) (places_of (action_shape actions.Goto) action.argument) ≡ false =
-    subst (λ (s : ArgumentShape). list_any (is_missed_label labels here) (places_of s action.argument) ≡ false)
+    let of_shape : list_any (is_missed_label labels here) (text_places (action_shape actions.Goto) action.argument) ≡ false =
+    subst (λ (s : ArgumentShape). list_any (is_missed_label labels here) (text_places s action.argument) ≡ false)
     (action_has_shape action.name (actions.Goto, shape) known) of_row in
-    let of_text : list_any (is_missed_label labels here) (places_of (action_shape actions.Goto) (Some text)) ≡ false =
-    subst (λ (argument : Option (List ℕ)). list_any (is_missed_label labels here) (places_of (action_shape actions.Goto) argument) ≡ false) says of_shape in
+    let of_text : list_any (is_missed_label labels here) (text_places (action_shape actions.Goto) (Some text)) ≡ false =
+    subst (λ (argument : Option (List ℕ)). list_any (is_missed_label labels here) (text_places (action_shape actions.Goto) argument) ≡ false) says of_shape in
     not_false (is_ahead here (labels text)) (both_false _ _ of_text).0

@@ -9,7 +9,7 @@ use Rattle.uw_rules.specs.declared.kinds.Refusal.{Refusal}
 use Rattle.uw_rules.specs.declared.kinds.Refusal.TheVariants as refusals
 use Rattle.uw_rules.specs.declared.grammar.ConditionName.{ConditionName}
 use Rattle.uw_rules.specs.Grammar.{ArgumentShape, action_of, condition_of}
-use Rattle.uw_rules.specs.Arguments.{is_bad_argument, is_bad_template, places_of}
+use Rattle.uw_rules.specs.Arguments.{is_bad_argument, is_bad_template, text_places}
 use Rattle.uw_rules.specs.Patterns.{is_pattern}
 use Rattle.uw_rules.specs.WrittenRules.{WrittenTest, WrittenRule, always, matching, holding, unparted, label, rule}
 use Rattle.uw_rules.specs.Rules.{early_refusal, first_of_two, has_bad_pattern, has_bad_template, has_pattern, has_unknown_action, has_unknown_condition, is_bad_rule, is_bad_test, is_unknown_test, any_text_of_test, late_refusal, pattern_of_rule, pattern_refusal, refusal_of_rule}
@@ -100,14 +100,14 @@ passed true kind rest h = absurd (cc)
 passed false kind rest h = (refl, h)
 
 known_good : {N : Type 0} (row : Option (N × ArgumentShape)) (argument : Option (List ℕ)) → is_none row ≡ false
-    → option_map_or (λ (k : N × ArgumentShape). list_any is_bad_template (places_of k.1 argument)) row false ≡ false
+    → option_map_or (λ (k : N × ArgumentShape). list_any is_bad_template (text_places k.1 argument)) row false ≡ false
     → IsSomeAnd row (λ (k : N × ArgumentShape). HasGoodTemplates k.1 argument)
 known_good None argument there templates = absurd (cc)
 known_good (Some k) argument there templates = templates
 
 known_condition : (row : Option (ConditionName × ArgumentShape)) (argument : Option (List ℕ)) → is_none row ≡ false
     → option_map_or (λ (k : ConditionName × ArgumentShape). is_bad_argument k.1 argument) row false ≡ false
-    → option_map_or (λ (k : ConditionName × ArgumentShape). list_any is_bad_template (places_of k.1 argument)) row false ≡ false
+    → option_map_or (λ (k : ConditionName × ArgumentShape). list_any is_bad_template (text_places k.1 argument)) row false ≡ false
     → IsSomeAnd row (λ (k : ConditionName × ArgumentShape). CanCompileCondition k argument)
 known_condition None argument there good templates = absurd (cc)
 known_condition (Some k) argument there good templates = record { argument_good = good; templates_good = templates }

@@ -25,8 +25,8 @@ text_in key [] = None
 text_in key (pair ∷ pairs) = if is_pair_of key pair then Some (after_first (λ byte. byte == 61) pair) else text_in key pairs
 
 -- the text of a key of an argument
-unfoldable pub text_at : List ℕ → Option (List ℕ) → Option (List ℕ)
-text_at key argument = text_in key (argument_pairs argument)
+unfoldable pub text_of_key : List ℕ → Option (List ℕ) → Option (List ℕ)
+text_of_key key argument = text_in key (argument_pairs argument)
 
 -- what stands before the first such byte of an argument
 unfoldable pub first_half : ℕ → Option (List ℕ) → Option (List ℕ)
@@ -45,13 +45,13 @@ pub record Place : Type 0 where
   pub text : Option (List ℕ)
 
 -- the places of an argument
-abbrev pub places_of : ArgumentShape → Option (List ℕ) → List Place
-places_of bare argument = []
-places_of (optional_text kind) argument = record { kind = kind; required = false; text = argument } ∷ []
-places_of (whole_text kind) argument = record { kind = kind; required = true; text = argument } ∷ []
-places_of (divided_text at first second) argument =
+abbrev pub text_places : ArgumentShape → Option (List ℕ) → List Place
+text_places bare argument = []
+text_places (optional_text kind) argument = record { kind = kind; required = false; text = argument } ∷ []
+text_places (whole_text kind) argument = record { kind = kind; required = true; text = argument } ∷ []
+text_places (divided_text at first second) argument =
     record { kind = first; required = true; text = first_half at argument } ∷ record { kind = second; required = true; text = second_half at argument } ∷ []
-places_of (keyed_texts keys) argument = map (λ (row : KeyRow). record { kind = row.kind; required = row.required; text = text_at row.key argument }) keys
+text_places (keyed_texts keys) argument = map (λ (row : KeyRow). record { kind = row.kind; required = row.required; text = text_of_key row.key argument }) keys
 
 -- ---- bad arguments
 
@@ -104,7 +104,7 @@ is_bad_place place = option_map_or (is_bad_text place.kind) place.text place.req
 
 -- the argument is bad
 unfoldable pub is_bad_argument : ArgumentShape → Option (List ℕ) → Bool
-is_bad_argument shape argument = has_stray shape argument || list_any is_bad_place (places_of shape argument)
+is_bad_argument shape argument = has_stray shape argument || list_any is_bad_place (text_places shape argument)
 
 -- ---- templates, patterns, labels and names of caches
 

@@ -8,7 +8,7 @@ use Rattle.uw_rules.specs.declared.grammar.ActionName.{ActionName}
 use Rattle.uw_rules.specs.declared.grammar.ActionName.TheVariants as actions
 use Rattle.uw_rules.specs.declared.grammar.ConditionName.{ConditionName}
 use Rattle.uw_rules.specs.declared.grammar.ConditionName.TheVariants as conditions
-use Rattle.uw_rules.specs.Arguments.{is_bad_argument, is_bad_template, places_of}
+use Rattle.uw_rules.specs.Arguments.{is_bad_argument, is_bad_template, text_places}
 use Rattle.regex.specs.declared.bytes.regex.Regex.{Regex}
 use Rattle.uw_rules.specs.Patterns.{IsPatternOf}
 use Rattle.uw_rules.specs.WrittenRules.{WrittenTest, WrittenRule, always, matching, holding, unparted, label, rule}
@@ -20,7 +20,7 @@ IsGoodTemplate text = option_map_or (λ bytes. is_some (fault_of bytes)) text fa
 
 -- the templates of an argument of the shape are good
 abbrev pub HasGoodTemplates : ArgumentShape → Option (List ℕ) → Type 0
-HasGoodTemplates shape argument = list_any is_bad_template (places_of shape argument) ≡ false
+HasGoodTemplates shape argument = list_any is_bad_template (text_places shape argument) ≡ false
 
 -- what stands behind the `:` of an action
 abbrev pub action_shape : ActionName → ArgumentShape

@@ -20,7 +20,7 @@ use Rattle.uw_rules.specs.declared.compiled.Rule.{Rule}
 use Rattle.uw_rules.specs.declared.compiled.RuleTable.{RuleTable}
 use Rattle.uw_rules.specs.declared.compiled.Rule.TheVariants as compiled
 use Rattle.uw_rules.specs.Grammar.{action_of, condition_of}
-use Rattle.uw_rules.specs.Arguments.{code_of, first_half, second_half, text_at}
+use Rattle.uw_rules.specs.Arguments.{code_of, first_half, second_half, text_of_key}
 use Rattle.uw_rules.specs.Patterns.{IsPatternOf}
 use Rattle.uw_rules.specs.WrittenRules.{Phrase, WrittenTest, WrittenRule, always, matching, holding, label, rule}
 
@@ -47,18 +47,18 @@ cache_named names text = option_and_then (λ name. position_from (bytes_eq name)
 -- a write of an entry
 abbrev pub write_of : List (List ℕ) → Option (List ℕ) → CacheWrite
 write_of names argument = record {
-  key = or_empty (text_at (codes "key") argument);
-  value = or_empty (text_at (codes "value") argument);
-  expires = or_zero (text_at (codes "expires") argument);
-  cache = cache_named names (text_at (codes "name") argument);
-  var = text_at (codes "var") argument;
+  key = or_empty (text_of_key (codes "key") argument);
+  value = or_empty (text_of_key (codes "value") argument);
+  expires = or_zero (text_of_key (codes "expires") argument);
+  cache = cache_named names (text_of_key (codes "name") argument);
+  var = text_of_key (codes "var") argument;
 }
 
 -- a calculation with an entry
 abbrev pub math_of : List (List ℕ) → MathOp → Option (List ℕ) → Action
 math_of names op argument =
-    does.CacheMath op (or_empty (text_at (codes "key") argument)) (or_one (text_at (codes "amount") argument)) (or_zero (text_at (codes "expires") argument))
-    (cache_named names (text_at (codes "name") argument)) (text_at (codes "var") argument)
+    does.CacheMath op (or_empty (text_of_key (codes "key") argument)) (or_one (text_of_key (codes "amount") argument)) (or_zero (text_of_key (codes "expires") argument))
+    (cache_named names (text_of_key (codes "name") argument)) (text_of_key (codes "var") argument)
 
 -- the compiled action of an action that is not refused, where the caches have these names and the labels stand at these places
 abbrev pub action_meant : List (List ℕ) → (List ℕ → Option ℕ) → ActionName → Option (List ℕ) → Action
@@ -73,13 +73,13 @@ action_meant names labels actions.AddVar argument = does.AddVar (or_empty (first
 action_meant names labels actions.AddHeader argument = does.AddHeader (or_empty argument)
 action_meant names labels actions.Send argument = does.Send (or_empty argument)
 action_meant names labels actions.Cache argument =
-    does.Cache (or_empty (text_at (codes "key") argument)) (text_at (codes "content_type") argument) (cache_named names (text_at (codes "name") argument))
+    does.Cache (or_empty (text_of_key (codes "key") argument)) (text_of_key (codes "content_type") argument) (cache_named names (text_of_key (codes "name") argument))
 action_meant names labels actions.CacheVar argument =
-    does.CacheVar (or_empty (text_at (codes "key") argument)) (cache_named names (text_at (codes "name") argument)) (or_empty (text_at (codes "var") argument))
+    does.CacheVar (or_empty (text_of_key (codes "key") argument)) (cache_named names (text_of_key (codes "name") argument)) (or_empty (text_of_key (codes "var") argument))
 action_meant names labels actions.CacheSet argument = does.CacheSet (write_of names argument)
 action_meant names labels actions.CacheUpdate argument = does.CacheUpdate (write_of names argument)
 action_meant names labels actions.CacheDel argument =
-    does.CacheDel (or_empty (text_at (codes "key") argument)) (cache_named names (text_at (codes "name") argument)) (text_at (codes "var") argument)
+    does.CacheDel (or_empty (text_of_key (codes "key") argument)) (cache_named names (text_of_key (codes "name") argument)) (text_of_key (codes "var") argument)
 action_meant names labels actions.CacheInc argument = math_of names ops.Inc argument
 action_meant names labels actions.CacheDec argument = math_of names ops.Dec argument
 action_meant names labels actions.CacheMul argument = math_of names ops.Mul argument
@@ -93,7 +93,7 @@ IsConditionOf names condition conditions.EndsWith argument = condition ≡ asks.
 IsConditionOf names condition conditions.Contains argument = condition ≡ asks.Contains (or_empty (first_half 59 argument)) (or_empty (second_half 59 argument))
 IsConditionOf names condition conditions.Empty argument = condition ≡ asks.Empty (or_empty argument)
 IsConditionOf names condition conditions.InCache argument =
-    condition ≡ asks.InCache (or_empty (text_at (codes "key") argument)) (cache_named names (text_at (codes "name") argument))
+    condition ≡ asks.InCache (or_empty (text_of_key (codes "key") argument)) (cache_named names (text_of_key (codes "name") argument))
 IsConditionOf names condition conditions.Regexp argument = IsRegexpOf condition (or_empty (first_half 59 argument)) (or_empty (second_half 59 argument))
   where
     IsRegexpOf : Condition → List ℕ → List ℕ → Type 0

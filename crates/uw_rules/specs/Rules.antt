@@ -7,7 +7,7 @@ use Rattle.uw_rules.specs.declared.lines.RuleLine.{RuleLine}
 use Rattle.uw_rules.specs.declared.kinds.RuleKind.{RuleKind}
 use Rattle.uw_rules.specs.declared.kinds.RuleKind.TheVariants as refusals
 use Rattle.uw_rules.specs.Grammar.{ArgumentShape, action_of, condition_of}
-use Rattle.uw_rules.specs.Arguments.{Place, is_bad_argument, is_bad_template, is_label, is_missed_label, is_unknown_name, pattern_in, places_of}
+use Rattle.uw_rules.specs.Arguments.{Place, is_bad_argument, is_bad_template, is_label, is_missed_label, is_unknown_name, pattern_in, text_places}
 use Rattle.uw_rules.specs.Patterns.{is_pattern}
 use Rattle.uw_rules.specs.WrittenRules.{WrittenTest, WrittenRule, always, matching, holding, unparted, label, rule, rule_of_line}
 
@@ -19,7 +19,7 @@ is_bad_phrase row argument = option_map_or (λ known. is_bad_argument known.1 ar
 
 -- a text of a known condition or action is such a one
 abbrev pub any_place : {N : Type 0} → (Place → Bool) → Option (N × ArgumentShape) → Option (List ℕ) → Bool
-any_place is_such row argument = option_map_or (λ known. list_any is_such (places_of known.1 argument)) row false
+any_place is_such row argument = option_map_or (λ known. list_any is_such (text_places known.1 argument)) row false
 
 -- the condition has a bad argument
 abbrev pub is_bad_test : WrittenTest → Bool

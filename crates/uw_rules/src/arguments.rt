@@ -2,7 +2,7 @@
 ghost use Rattle.std.specs.Prelude.{◌≡◌, ◌==◌, ◌||◌, if◌then◌else◌, map, Some, None, option_and_then};
 ghost use Rattle.std.specs.List.{after_first, list_any};
 ghost use Rattle.std.specs.Option.{option_copied};
-ghost use Rattle.uw_rules.specs.Arguments.{argument_pairs, first_half, has_stray, is_pair_of, is_stray_pair, is_twice, second_half, text_at};
+ghost use Rattle.uw_rules.specs.Arguments.{argument_pairs, first_half, has_stray, is_pair_of, is_stray_pair, is_twice, second_half, text_of_key};
 ghost use Rattle.uw_rules.specs.Grammar.{KeyRow};
 ghost use Rattle.uw_rules.specs.GrammarSteps.{pairs_left, shape_seen, slot_seen};
 
@@ -21,8 +21,8 @@ fn text_of_pair<'a>(pair: &'a [u8], key: &[u8]) -> Option<&'a [u8]>
 }
 
 /// The text of a key: that of its first pair.
-pub fn text_at<'a>(argument: Option<&'a [u8]>, key: &[u8]) -> Option<&'a [u8]>
-    ensures { option_copied result ≡ text_at key.now (option_copied argument.entry) }
+pub fn text_of_key<'a>(argument: Option<&'a [u8]>, key: &[u8]) -> Option<&'a [u8]>
+    ensures { option_copied result ≡ text_of_key key.now (option_copied argument.entry) }
 {
     let mut rest = argument;
     'pairs: while let Some(left) = rest {

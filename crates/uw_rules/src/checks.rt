@@ -3,12 +3,12 @@ ghost use Rattle.std.specs.Prelude.{◌≡◌, ◌==◌, ◌<◌, ◌^◌, ◌||
 ghost use Rattle.std.specs.List.{list_any};
 ghost use Rattle.std.specs.Option.{option_copied};
 ghost use Rattle.std.specs.Str.{bytes_eq};
-ghost use Rattle.uw_rules.specs.Arguments.{code_of, is_ahead, is_bad_template, is_bad_text, is_label, places_of};
+ghost use Rattle.uw_rules.specs.Arguments.{code_of, is_ahead, is_bad_template, is_bad_text, is_label, text_places};
 ghost use Rattle.uw_rules.specs.CheckSteps.{failing, IsShortText, place_at};
 ghost use Rattle.uw_rules.specs.Grammar.{keyed_texts};
 ghost use Rattle.uw_rules.specs.GrammarSteps.{shape_seen, slot_seen};
 
-use crate::arguments::{first_half, second_half, text_at};
+use crate::arguments::{first_half, second_half, text_of_key};
 use crate::grammar::{Shape, Slot, TextKind};
 use crate::labels::Labels;
 use uw_base::texts::{cut, is};
@@ -166,10 +166,10 @@ impl<'a> Check<'a> {
     // Whether the text of one of the keys is one that is looked for.
     fn fails_any_key(self, slots: &[Slot], argument: Option<&[u8]>) -> bool
         requires { IsShortText (option_copied argument) }
-        ensures { result ≡ list_any (failing self.entry) (places_of (keyed_texts (map slot_seen slots.now)) (option_copied argument.entry)) }
+        ensures { result ≡ list_any (failing self.entry) (text_places (keyed_texts (map slot_seen slots.now)) (option_copied argument.entry)) }
     {
         for slot in slots {
-            if self.fails_at(slot.kind, slot.required, text_at(argument, slot.key)) {
+            if self.fails_at(slot.kind, slot.required, text_of_key(argument, slot.key)) {
                 return true;
             }
         }
@@ -179,7 +179,7 @@ impl<'a> Check<'a> {
     /// Whether a text of an argument of the shape is one that is looked for.
     pub fn fails_any(self, shape: Shape, argument: Option<&[u8]>) -> bool
         requires { IsShortText (option_copied argument) }
-        ensures { result ≡ list_any (failing self.entry) (places_of (shape_seen shape) (option_copied argument.entry)) }
+        ensures { result ≡ list_any (failing self.entry) (text_places (shape_seen shape) (option_copied argument.entry)) }
     {
         match shape {
             Shape::Bare => false,

@@ -3,7 +3,7 @@ ghost use Rattle.std.specs.Prelude.{◌≡◌, ◌==◌, ◌<◌, ◌^◌, [], t
 ghost use Rattle.std.specs.List.{position_from};
 ghost use Rattle.std.specs.Str.{bytes_eq};
 ghost use Rattle.std.specs.Option.{option_copied};
-ghost use Rattle.uw_rules.specs.Arguments.{code_of, first_half, is_bad_argument, pattern_in, second_half, text_at};
+ghost use Rattle.uw_rules.specs.Arguments.{code_of, first_half, is_bad_argument, pattern_in, second_half, text_of_key};
 ghost use Rattle.uw_rules.specs.CheckSteps.{IsShortText};
 ghost use Rattle.uw_rules.specs.Compiled.{IsConditionOf, IsRuleOf, IsTestOf, action_meant, cache_named, math_of, or_empty, or_one, or_zero, write_of};
 ghost use Rattle.uw_rules.specs.CompileSteps.{CanCompile, CanCompileTest, IsPatternIn, condition_shape, HasGoodTemplates, IsGoodTemplate, action_shape};
@@ -14,7 +14,7 @@ ghost use Rattle.uw_rules.specs.WrittenSteps.{AreShort, IsShortTest, test_seen, 
 ghost use Rattle.uw_rules.specs.declared.grammar.ActionName.TheVariants as actions;
 ghost use Rattle.uw_rules.specs.declared.grammar.ConditionName.TheVariants as conditions;
 
-use crate::arguments::{first_half, second_half, text_at};
+use crate::arguments::{first_half, second_half, text_of_key};
 use crate::checks::code_of;
 use crate::compiled::{Action, CacheWrite, Condition, Rule, Test};
 use crate::grammar::{ActionName, ConditionName, action_of, condition_of};
@@ -44,10 +44,10 @@ fn template(alloc: Global, text: Option<&[u8]>) -> Result<Template, Memory>
 // The template of a key, the empty one where it is left out.
 fn template_at(alloc: Global, argument: Option<&[u8]>, key: &[u8]) -> Result<Template, Memory>
     requires short { IsShortText (option_copied argument) }
-    requires good { IsGoodTemplate (text_at key.now (option_copied argument)) }
-    ensures { IfOk result (λ template. template ≡ or_empty (text_at key.now (option_copied argument.entry))) }
+    requires good { IsGoodTemplate (text_of_key key.now (option_copied argument)) }
+    ensures { IfOk result (λ template. template ≡ or_empty (text_of_key key.now (option_copied argument.entry))) }
 {
-    template(alloc, text_at(argument, key))
+    template(alloc, text_of_key(argument, key))
 }
 
 // The template of a key, if it stands.
@@ -57,10 +57,10 @@ fn template_if_any(
     key: &[u8],
 ) -> Result<Option<Template>, Memory>
     requires short { IsShortText (option_copied argument) }
-    requires good { IsGoodTemplate (text_at key.now (option_copied argument)) }
-    ensures { IfOk result (λ template. template ≡ text_at key.now (option_copied argument.entry)) }
+    requires good { IsGoodTemplate (text_of_key key.now (option_copied argument)) }
+    ensures { IfOk result (λ template. template ≡ text_of_key key.now (option_copied argument.entry)) }
 {
-    let text = text_at(argument, key);
+    let text = text_of_key(argument, key);
     if text.is_none() {
         return Ok(None);
     }
@@ -121,9 +121,9 @@ fn number_of(names: &[Bytes], name: &[u8]) -> Option<u32>
 #[tactic(auto, unfolding(crate::specs::Compiled::cache_named))]
 fn cache_named(names: &[Bytes], argument: Option<&[u8]>) -> Option<u32>
     requires { length names.now < 2 ^ 32 }
-    ensures { result ≡ cache_named names.now (text_at (codes "name") (option_copied argument.entry)) }
+    ensures { result ≡ cache_named names.now (text_of_key (codes "name") (option_copied argument.entry)) }
 {
-    match text_at(argument, b"name") {
+    match text_of_key(argument, b"name") {
         Some(name) => number_of(names, name),
         None => None,
     }
@@ -141,9 +141,9 @@ fn write_of(alloc: Global, names: &[Bytes], argument: Option<&[u8]>) -> Result<C
     Ok(CacheWrite {
         key,
         value,
-        expires: or_zero(text_at(argument, b"expires")),
+        expires: or_zero(text_of_key(argument, b"expires")),
         cache: cache_named(names, argument),
-        var: text_if_any(alloc, text_at(argument, b"var"))?,
+        var: text_if_any(alloc, text_of_key(argument, b"var"))?,
     })
 }
 
@@ -163,10 +163,10 @@ fn math_of(
     Ok(Action::CacheMath {
         op,
         key,
-        amount: or_one(text_at(argument, b"amount")),
-        expires: or_zero(text_at(argument, b"expires")),
+        amount: or_one(text_of_key(argument, b"amount")),
+        expires: or_zero(text_of_key(argument, b"expires")),
         cache: cache_named(names, argument),
-        var: text_if_any(alloc, text_at(argument, b"var"))?,
+        var: text_if_any(alloc, text_of_key(argument, b"var"))?,
     })
 }
 
@@ -197,7 +197,7 @@ fn cache_var(alloc: Global, names: &[Bytes], argument: Option<&[u8]>) -> Result<
     Ok(Action::CacheVar {
         key,
         cache: cache_named(names, argument),
-        var: text(alloc, text_at(argument, b"var"))?,
+        var: text(alloc, text_of_key(argument, b"var"))?,
     })
 }
 
@@ -212,7 +212,7 @@ fn cache_del(alloc: Global, names: &[Bytes], argument: Option<&[u8]>) -> Result<
     Ok(Action::CacheDel {
         key,
         cache: cache_named(names, argument),
-        var: text_if_any(alloc, text_at(argument, b"var"))?,
+        var: text_if_any(alloc, text_of_key(argument, b"var"))?,
     })
 }
 
