@@ -1,5 +1,5 @@
 -- The steps of reading a table: one pattern, and one rule.
-use Rattle.std.specs.Prelude.{◌≡◌, ◌⊎◌, ℕ, true, false, List, Option, None, Some, IsSomeAnd, Result, Ok, Err}
+use Rattle.std.specs.Prelude.{◌≡◌, ◌⊎◌, ℕ, Bool, true, false, List, Option, None, Some, IsSomeAnd, Result, Ok, Err}
 use Rattle.regex.specs.declared.bytes.regex.Regex.{Regex}
 use Rattle.uw_outside.specs.Faults.{Rose}
 use Rattle.uw_rules.specs.declared.kinds.RuleKind.{RuleKind}
@@ -14,6 +14,7 @@ use Rattle.uw_rules.specs.WrittenRules.{WrittenRule}
 use Rattle.uw_rules.specs.Rules.{refusal_of_rule}
 use Rattle.uw_rules.specs.Compiled.{IsRuleOf}
 use Rattle.uw_rules.specs.CompileSteps.{IsPatternIn}
+use Rattle.uw_rules.specs.Tables.{is_of_maker}
 
 -- a text is no pattern; or the maker of patterns refused it, and counted that
 abbrev pub IsPatternRefusal : ℕ → ℕ → List ℕ → RuleKind → Type 0
@@ -43,3 +44,9 @@ GivesRule names labels here before after written (Err refusals.Memory) = Unit {0
 abbrev pub error_of : ℕ → Refusal → RulesError
 error_of line (refusals.Refused kind) = errors.Refused line kind
 error_of line refusals.Memory = errors.Memory
+
+-- a step that was refused by the maker of patterns
+abbrev pub is_step_of_maker : {X : Type 0} → Result X Refusal → Bool
+is_step_of_maker (Ok x) = false
+is_step_of_maker (Err (refusals.Refused kind)) = is_of_maker kind
+is_step_of_maker (Err refusals.Memory) = false

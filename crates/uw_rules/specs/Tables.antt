@@ -1,5 +1,5 @@
 -- What reading a table answers.
-use Rattle.std.specs.Prelude.{◌≡◌, ◌⊎◌, ℕ, ◌<◌, ◌^◌, true, false, is_some, List, [], ◌∷◌, map, slice_get, length, Option, None, Some, IsSomeAnd, Result, Ok, Err, All}
+use Rattle.std.specs.Prelude.{◌≡◌, ◌⊎◌, ℕ, ◌<◌, ◌^◌, Bool, true, false, is_some, List, [], ◌∷◌, map, slice_get, length, Option, None, Some, IsSomeAnd, Result, Ok, Err, All}
 use Rattle.std.specs.List.Sorted.{IsStrictlyIncreasing}
 use Rattle.std.specs.Str.{IsUtf8}
 use Rattle.uw_outside.specs.Faults.{Rose}
@@ -53,3 +53,14 @@ abbrev pub ReadsRules : List (List ℕ) → List RuleLine → ℕ → ℕ → Re
 ReadsRules names lines before after (Ok table) = NoneRefusedBefore names lines (length lines) × AreRulesOf names (place_of_label lines) (rules_of table) (table_of lines)
 ReadsRules names lines before after (Err (errors.Refused line kind)) = IsFirstRefused names lines before after line kind
 ReadsRules names lines before after (Err errors.Memory) = Unit {0}
+
+-- the refusal is that of the maker of patterns
+abbrev pub is_of_maker : RuleKind → Bool
+is_of_maker refusals.PatternRefused = true
+is_of_maker _ = false
+
+-- the answer is that the maker of patterns refused one
+abbrev pub tells_of_maker : Result RuleTable RulesError → Bool
+tells_of_maker (Ok table) = false
+tells_of_maker (Err (errors.Refused line kind)) = is_of_maker kind
+tells_of_maker (Err errors.Memory) = false

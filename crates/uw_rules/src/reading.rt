@@ -2,10 +2,11 @@
 ghost use Rattle.std.specs.Prelude.{◌≡◌, ◌<◌, ◌≤◌, ◌^◌, ℕ, List, length, IfSome};
 ghost use Rattle.std.specs.Option.{option_copied};
 ghost use Rattle.std.specs.Str.{IsUtf8};
+ghost use Rattle.uw_outside.specs.Faults.{HasCause};
 ghost use Rattle.uw_rules.specs.LabelSteps.{label_place};
 ghost use Rattle.uw_rules.specs.Rules.{pattern_of_rule, place_of_label};
-ghost use Rattle.uw_rules.specs.Tables.{AreRuleLines, ReadsRules};
-ghost use Rattle.uw_rules.specs.TableSteps.{GivesPattern, GivesPatternIfAny, GivesRule, error_of};
+ghost use Rattle.uw_rules.specs.Tables.{AreRuleLines, ReadsRules, tells_of_maker};
+ghost use Rattle.uw_rules.specs.TableSteps.{GivesPattern, GivesPatternIfAny, GivesRule, error_of, is_step_of_maker};
 ghost use Rattle.uw_rules.specs.WrittenSteps.{AreShort, written_seen};
 
 use crate::compiled::{Rule, RuleTable};
@@ -25,7 +26,7 @@ use uw_base::BytesList;
 fn built<M: Patterns>(alloc: Global, text: &[u8], make: &mut M) -> Result<Regex, Refusal>
     requires { IsUtf8 text.now }
     ensures gives { GivesPattern (M.faults make.old) (M.faults make.new) text.now result }
-    ensures later { M.faults make.old ≤ M.faults make.new }
+    ensures cause { HasCause (M.faults make.old) (M.faults make.new) (is_step_of_maker result) }
 {
     let text = match str::from_utf8(text) {
         Ok(text) => text,
@@ -47,7 +48,7 @@ fn built_if_any<M: Patterns>(
 ) -> Result<Option<Regex>, Refusal>
     requires { IfSome (option_copied text) IsUtf8 }
     ensures gives { GivesPatternIfAny (M.faults make.old) (M.faults make.new) (option_copied text.entry) result }
-    ensures later { M.faults make.old ≤ M.faults make.new }
+    ensures cause { HasCause (M.faults make.old) (M.faults make.new) (is_step_of_maker result) }
 {
     match text {
         Some(text) => match built(alloc, text, make) {
@@ -71,7 +72,7 @@ fn read_rule<M: Patterns>(
     requires text { IfSome (pattern_of_rule (written_seen rule)) IsUtf8 }
     ensures gives { GivesRule site.now.names.now (label_place site.now.labels) here (M.faults make.old) (M.faults make.new)
         (written_seen rule.entry) result }
-    ensures later { M.faults make.old ≤ M.faults make.new }
+    ensures cause { HasCause (M.faults make.old) (M.faults make.new) (is_step_of_maker result) }
 {
     if let Some(kind) = early_refusal(here, rule) {
         return Err(Refusal::Refused(kind));
@@ -112,7 +113,8 @@ fn read_lines<M: Patterns>(
     requires names { length site.now.names.now < 2 ^ 32 }
     requires lines { AreRuleLines lines.now }
     requires labels { (text : List ℕ) → label_place site.now.labels text ≡ place_of_label lines.now text }
-    ensures { ReadsRules site.now.names.now lines.now (M.faults make.old) (M.faults make.new) result }
+    ensures reads { ReadsRules site.now.names.now lines.now (M.faults make.old) (M.faults make.new) result }
+    ensures cause { HasCause (M.faults make.old) (M.faults make.new) (tells_of_maker result) }
 {
     let mut table = RuleTable::new(alloc);
     for here in 0..lines.len() {
@@ -126,7 +128,7 @@ fn read_lines<M: Patterns>(
 }
 
 /// What a table of rules says: its rules, compiled; or its first refused line. The caches have these names, by whose
-/// places they are numbered, and there are so many shared areas. `PatternRefused` only where the maker refused a pattern
+/// places they are numbered, and there are so many shared areas. `PatternRefused` just where the maker refused a pattern
 /// and counted that.
 pub fn read_rules<M: Patterns>(
     alloc: Global,
@@ -137,7 +139,8 @@ pub fn read_rules<M: Patterns>(
 ) -> Result<RuleTable, RulesError>
     requires lines { AreRuleLines lines.now }
     requires names { length names.now < 2 ^ 32 }
-    ensures { ReadsRules names.now lines.now (M.faults make.old) (M.faults make.new) result }
+    ensures reads { ReadsRules names.now lines.now (M.faults make.old) (M.faults make.new) result }
+    ensures cause { HasCause (M.faults make.old) (M.faults make.new) (tells_of_maker result) }
 {
     let site = Site {
         labels: labels_of(alloc, lines.as_slice())?,
