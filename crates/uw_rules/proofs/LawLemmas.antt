@@ -2,6 +2,7 @@
 use Rattle.std.proofs.Common.{◌≡◌, ℕ, zero, suc, ◌+◌, ◌-◌, ◌<◌, ◌≤◌, Bool, true, false, not, cond, nat_le, nat_lt, List, [], ◌∷◌, length, take, refl, sym, ap, ◌∙◌, subst, arith, Option, Some, None, option_and_then}
 use Rattle.std.specs.List.{list_any, position_from, slice_get}
 use Rattle.std.specs.Option.{option_map, option_map_or}
+use Rattle.std.specs.Str.{bytes_eq}
 use Rattle.std.proofs.lemmas.Bool.Decides.{nat_tests}
 use Rattle.std.proofs.lemmas.List.{length-map, length-take}
 use Rattle.std.proofs.lemmas.Option.{slice_get-map, slice_get_within}
@@ -15,6 +16,7 @@ use Rattle.uw_rules.specs.Arguments.{is_ahead, is_label, is_missed_label, text_p
 use Rattle.uw_rules.specs.Grammar.{ArgumentShape, action_of}
 use Rattle.uw_rules.specs.WrittenRules.{Phrase, WrittenTest, WrittenRule, unparted, label, rule, rule_of_line}
 use Rattle.uw_rules.specs.Rules.{any_text_of_test, early_refusal, first_of_two, has_bad_pattern, has_bad_template, has_unknown_action, has_unknown_condition, has_unknown_name, is_bad_rule, is_label_of, is_label_twice, late_refusal, misses_label, pattern_refusal, place_of_label, refusal_of_rule, rule_refusal_at, table_of}
+use Rattle.uw_rules.specs.Compiled.{cache_named}
 use Rattle.uw_rules.specs.CompileSteps.{action_shape}
 use Rattle.uw_rules.proofs.CompileLemmas.{action_has_shape}
 use Rattle.uw_rules.proofs.RefusalLemmas.{both_false, late, passed}
@@ -199,3 +201,13 @@ goto_ahead names lines here test action shape text at known says free =
     let of_text : list_any (is_missed_label labels here) (text_places (action_shape actions.Goto) (Some text)) ≡ false =
     subst (λ (argument : Option (List ℕ)). list_any (is_missed_label labels here) (text_places (action_shape actions.Goto) argument) ≡ false) says of_shape in
     not_false (is_ahead here (labels text)) (both_false _ _ of_text).0
+
+-- ---- caches
+
+pub cache_below : (names : List (List ℕ)) (text : Option (List ℕ)) (number : ℕ) → cache_named names text ≡ Some number → number < length names
+unfolding cache_named
+cache_below names None number h = absurd (cc)
+cache_below names (Some name) number h =
+    let f = found (bytes_eq name) 0 names number h in
+    let inside : number - 0 < length names = slice_get_within names (number - 0) f.at f.is_at in
+    omega arith

@@ -1,8 +1,9 @@
 //! Laws of the definitions, over all tables. Each is the contract of a function that does nothing.
-ghost use Rattle.std.specs.Prelude.{◌≡◌, ◌<◌, ℕ, List, Some, None, true, false, slice_get};
+ghost use Rattle.std.specs.Prelude.{◌≡◌, ◌<◌, ℕ, List, Some, None, true, false, length, slice_get, Option};
 ghost use Rattle.uw_rules.specs.declared.grammar.ActionName.TheVariants as actions;
 ghost use Rattle.uw_rules.specs.declared.lines.RuleLine.{RuleLine};
 ghost use Rattle.uw_rules.specs.Arguments.{is_ahead, is_label};
+ghost use Rattle.uw_rules.specs.Compiled.{cache_named};
 ghost use Rattle.uw_rules.specs.Grammar.{ArgumentShape, action_of};
 ghost use Rattle.uw_rules.specs.Rules.{place_of_label, rule_refusal_at, table_of};
 ghost use Rattle.uw_rules.specs.WrittenRules.{Phrase, WrittenTest, label, rule};
@@ -22,4 +23,9 @@ pub fn a_goto_leads_ahead()
     ensures { (names : List (List ℕ)) (lines : List RuleLine) (here : ℕ) (test : WrittenTest) (action : Phrase) (shape : ArgumentShape) (text : List ℕ)
         → slice_get (table_of lines) here ≡ Some (rule test action) → action_of action.name ≡ Some (actions.Goto, shape) → action.argument ≡ Some text
         → rule_refusal_at names lines here false ≡ None → is_ahead here (place_of_label lines text) ≡ true }
+{}
+
+/// The number of a cache is below the count of caches.
+pub fn a_number_of_a_cache_is_that_of_one()
+    ensures { (names : List (List ℕ)) (text : Option (List ℕ)) (number : ℕ) → cache_named names text ≡ Some number → number < length names }
 {}
