@@ -6,4 +6,4 @@ returns g c lines over =
     let before = g.M.Patterns.faults c.args.make.now in
     let after = g.M.Patterns.faults c.read_rules-rules.new.make in
     c.decided.ensures lines before after over
-    (reads_rules_of lines c.args.walk c.names-names.result.now before after c.read_rules-rules.result over c.names-names.ensures c.read_rules-rules.ensures)
+    (reads_rules_of lines c.args.walk c.names-names.result.now before after c.read_rules-rules.result over c.names-names.ensures c.read_rules-rules.ensures.reads)

@@ -1,4 +1,4 @@
-use Rattle.std.proofs.Common.{inr, refl, sym, ◌∙◌, arith}
+use Rattle.std.proofs.Common.{inr, refl, arith}
 use Rattle.uw_top.proofs.configuration.having_a_cache.Goals as goal
 
 pub returns-then-len-eq0-clause-gives : goal.returns-then-len-eq0-clause-gives
