@@ -47,7 +47,7 @@ fn front(rt: &impl Abort, ram: &Ram, over: &mut Overlay, shape: &Shape, item: u6
 }
 
 // An item of the list leaves it.
-fn out(rt: &impl Abort, ram: &Ram, over: &mut Overlay, shape: &Shape, item: u64, list: &[u64])
+fn leave(rt: &impl Abort, ram: &Ram, over: &mut Overlay, shape: &Shape, item: u64, list: &[u64])
     requires shape { IsShape shape.now }
     requires region { length ram.now ≡ shape_words shape.now }
     requires item { item < shape.now.n_items }
@@ -123,14 +123,14 @@ fn a_middle_the_last_and_the_first_item_leave_the_list(rt: HostRuntime) -> Resul
     let ram = Ram::new(rt.alloc(), 489)?;
     let mut over = Overlay::new(rt.alloc(), 40)?;
     three(&rt, &ram, &mut over, &shape);
-    out(&rt, &ram, &mut over, &shape, 0, &[3, 0, 2]);
+    leave(&rt, &ram, &mut over, &shape, 0, &[3, 0, 2]);
     reads(&rt, &ram, &over, &shape, &[3, 2]);
-    out(&rt, &ram, &mut over, &shape, 2, &[3, 2]);
+    leave(&rt, &ram, &mut over, &shape, 2, &[3, 2]);
     reads(&rt, &ram, &over, &shape, &[3]);
     front(&rt, &ram, &mut over, &shape, 1, &[3]);
-    out(&rt, &ram, &mut over, &shape, 1, &[1, 3]);
+    leave(&rt, &ram, &mut over, &shape, 1, &[1, 3]);
     reads(&rt, &ram, &over, &shape, &[3]);
-    out(&rt, &ram, &mut over, &shape, 3, &[3]);
+    leave(&rt, &ram, &mut over, &shape, 3, &[3]);
     reads(&rt, &ram, &over, &shape, &[]);
     Ok(())
 }
