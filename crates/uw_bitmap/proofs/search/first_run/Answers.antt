@@ -4,7 +4,7 @@ use Rattle.std.proofs.lemmas.Bool.{cases_eq}
 use Rattle.uw_words.specs.Parts.{seen}
 use Rattle.uw_bitmap.specs.Bits.{is_marked}
 use Rattle.uw_bitmap.proofs.Searches.{none_within, none_left}
-use Rattle.uw_bitmap.proofs.Steps.{few_blocks, over_full_word, over_marked_bits, at_enough}
+use Rattle.uw_bitmap.proofs.Steps.{few_blocks, over_full_words, over_marked_bits, at_enough}
 use Rattle.uw_bitmap.proofs.search.first_run.Goals as goal
 use Rattle.uw_bitmap.proofs.search.first_run.Goals.{After-next_zero}
 
@@ -15,14 +15,12 @@ more c = elim (cases_eq c.next_zero.result c.next_one-marked.result) [
   | inr other ↦ omega (arith, c.next_zero.ensures.from, other)
 ]
 
-pub overflow_add-at : goal.overflow_add-at
-overflow_add-at c = record { fits = omega (arith, few_blocks c.args.shape.now c.requires.shape, c.loop-at-test.true) }
-
 pub loop-at-preserved-then-word : goal.loop-at-preserved-then-word
-loop-at-preserved-then-word c = over_full_word (seen c.args.over.now c.args.ram.now) c.args.shape.now c.args.n c.loop-at.start c.loop-at.at c.load-word.result (omega (arith, c.if-n-eq0.false)) (sym c.load-word.ensures) c.loop-at.invariant c.if-word.true
+loop-at-preserved-then-word c = over_full_words (seen c.args.over.now c.args.ram.now) c.args.shape.now c.args.n c.loop-at.start c.loop-at.at c.load-word.result (omega (arith, c.if-n-eq0.false)) (sym c.load-word.ensures) c.loop-at.invariant
+    c.behind_full-at.result c.if-word.true c.behind_full-at.ensures.from c.behind_full-at.ensures.full
 
-pub overflow_add-at-in-loop-at : goal.overflow_add-at-in-loop-at
-overflow_add-at-in-loop-at c = record { fits = omega (arith, few_blocks c.args.shape.now c.requires.shape, c.loop-at-test.true, c.next_one-marked.ensures.within) }
+pub overflow_add-at : goal.overflow_add-at
+overflow_add-at c = record { fits = omega (arith, few_blocks c.args.shape.now c.requires.shape, c.loop-at-test.true, c.next_one-marked.ensures.within) }
 
 pub overflow_add-at-then-marked-lt-BITS : goal.overflow_add-at-then-marked-lt-BITS
 overflow_add-at-then-marked-lt-BITS c = record { fits = omega (arith, few_blocks c.args.shape.now c.requires.shape, c.loop-at-test.true, c.next_zero.ensures.within) }
