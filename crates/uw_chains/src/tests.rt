@@ -1,4 +1,4 @@
-// A chain of up to three items, under each call at each place.
+// A chain of up to five items, under each call at each place.
 ghost use Rattle.std.specs.Prelude.{◌≡◌, ◌<◌, ◌∷◌, [], length};
 ghost use Rattle.uw_words.specs.Shapes.{IsShape, shape_words};
 ghost use Rattle.uw_words.specs.Numbers.{IsOneOf, IsNoneOf, without_number};
@@ -7,9 +7,10 @@ ghost use Rattle.uw_words.specs.Records.{HoldsKey};
 ghost use Rattle.uw_chains.specs.Chains.{IsChains};
 
 use crate::{find, link, unlink};
+use std::alloc::Global;
 use std::process::Abort;
 use std::test::Fail;
-use uw_base::djb33x;
+use uw_base::{Memory, djb33x};
 use uw_words::{Overlay, Ram, Shape, first_word};
 
 // One chain, and four items of nine words from word 18 on.
@@ -157,5 +158,65 @@ fn the_chain_after_each_call(rt: HostRuntime) -> Result<(), Fail> {
     finds(&rt, &ram, &over, &shape, &KEYS, &[3]);
     leaves(&rt, &ram, &mut over, &shape, 3, &[3]);
     finds(&rt, &ram, &over, &shape, &KEYS, &[]);
+    Ok(())
+}
+
+// One chain, and five items of nine words from word 18 on.
+fn shape_of_five() -> Shape
+    ensures shape { IsShape result }
+    ensures region { shape_words result ≡ 495 }
+    ensures items { result.n_items ≡ 5 }
+    ensures chain { result.n_chains ≡ 1 }
+{
+    Shape {
+        head: 0,
+        bitmap: 16,
+        chains: 17,
+        items: 18,
+        stride: 9,
+        blocks: 63,
+        intent: 95,
+        room: 400,
+        n_items: 5,
+        n_blocks: 4,
+        n_chains: 1,
+        key_words: 1,
+        block_words: 8,
+    }
+}
+
+const FIVE_KEYS: [&[u8]; 5] = [b"ap", b"g6", b"k", b"eightlet", b"z"];
+
+// One of five items leaves its chain, which has these then.
+fn one_leaves(rt: &impl Abort, alloc: Global, item: u64, rest: &[u64]) -> Result<(), Memory>
+    requires item { item < 5 }
+    requires listed { IsOneOf (4 ∷ 3 ∷ 2 ∷ 1 ∷ 0 ∷ []) item }
+    requires rest { rest.now ≡ without_number (4 ∷ 3 ∷ 2 ∷ 1 ∷ 0 ∷ []) item }
+{
+    let shape = shape_of_five();
+    let ram = Ram::new(alloc, 495)?;
+    let mut over = Overlay::new(alloc, 40)?;
+    for k in 0..5 {
+        keyed(rt, &mut over, &shape, k, FIVE_KEYS[k as usize]);
+    }
+    begins(rt, &ram, &over, &shape);
+    joins(rt, &ram, &mut over, &shape, 0, FIVE_KEYS[0], &[]);
+    joins(rt, &ram, &mut over, &shape, 1, FIVE_KEYS[1], &[0]);
+    joins(rt, &ram, &mut over, &shape, 2, FIVE_KEYS[2], &[1, 0]);
+    joins(rt, &ram, &mut over, &shape, 3, FIVE_KEYS[3], &[2, 1, 0]);
+    joins(rt, &ram, &mut over, &shape, 4, FIVE_KEYS[4], &[3, 2, 1, 0]);
+    finds(rt, &ram, &over, &shape, &FIVE_KEYS, &[4, 3, 2, 1, 0]);
+    leaves(rt, &ram, &mut over, &shape, item, &[4, 3, 2, 1, 0]);
+    finds(rt, &ram, &over, &shape, &FIVE_KEYS, rest);
+    Ok(())
+}
+
+#[test]
+fn each_of_five_items_leaves_its_chain(rt: HostRuntime) -> Result<(), Fail> {
+    one_leaves(&rt, rt.alloc(), 4, &[3, 2, 1, 0])?;
+    one_leaves(&rt, rt.alloc(), 3, &[4, 2, 1, 0])?;
+    one_leaves(&rt, rt.alloc(), 2, &[4, 3, 1, 0])?;
+    one_leaves(&rt, rt.alloc(), 1, &[4, 3, 2, 0])?;
+    one_leaves(&rt, rt.alloc(), 0, &[4, 3, 2, 1])?;
     Ok(())
 }

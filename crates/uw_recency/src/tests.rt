@@ -6,8 +6,10 @@ ghost use Rattle.uw_words.specs.Parts.{seen};
 ghost use Rattle.uw_recency.specs.Recency.{IsRecency};
 
 use crate::{last, newest, older, push_front, take_out, to_front};
+use std::alloc::Global;
 use std::process::Abort;
 use std::test::Fail;
+use uw_base::Memory;
 use uw_words::{Overlay, Ram, Shape};
 
 // Four items of nine words, from word 21 on.
@@ -159,5 +161,94 @@ fn the_words_of_a_list(rt: HostRuntime) -> Result<(), Fail> {
             assert_eq!(rt; over.load(&ram, at), word, "at {at}");
         }
     }
+    Ok(())
+}
+
+// Five items of nine words, from word 21 on.
+fn shape_of_five() -> Shape
+    ensures shape { IsShape result }
+    ensures region { shape_words result ≡ 498 }
+    ensures items { result.n_items ≡ 5 }
+{
+    Shape {
+        head: 0,
+        bitmap: 16,
+        chains: 17,
+        items: 21,
+        stride: 9,
+        blocks: 66,
+        intent: 98,
+        room: 400,
+        n_items: 5,
+        n_blocks: 4,
+        n_chains: 4,
+        key_words: 1,
+        block_words: 8,
+    }
+}
+
+// A list of five items in a region of zero words.
+fn five(rt: &impl Abort, ram: &Ram, over: &mut Overlay, shape: &Shape)
+    requires shape { IsShape shape.now }
+    requires items { shape.now.n_items ≡ 5 }
+    requires region { length ram.now ≡ shape_words shape.now }
+    requires list { IsRecency (seen over.old ram.now) shape.now [] }
+    ensures { IsRecency (seen over.new ram.now) shape.now (4 ∷ 3 ∷ 2 ∷ 1 ∷ 0 ∷ []) }
+{
+    front(rt, ram, over, shape, 0, &[]);
+    front(rt, ram, over, shape, 1, &[0]);
+    front(rt, ram, over, shape, 2, &[1, 0]);
+    front(rt, ram, over, shape, 3, &[2, 1, 0]);
+    front(rt, ram, over, shape, 4, &[3, 2, 1, 0]);
+}
+
+// One of the five items leaves the list, which is this one then.
+fn one_leaves(rt: &impl Abort, alloc: Global, item: u64, rest: &[u64]) -> Result<(), Memory>
+    requires item { item < 5 }
+    requires listed { IsOneOf (4 ∷ 3 ∷ 2 ∷ 1 ∷ 0 ∷ []) item }
+    requires rest { rest.now ≡ without_number (4 ∷ 3 ∷ 2 ∷ 1 ∷ 0 ∷ []) item }
+{
+    let shape = shape_of_five();
+    let ram = Ram::new(alloc, 498)?;
+    let mut over = Overlay::new(alloc, 40)?;
+    five(rt, &ram, &mut over, &shape);
+    reads(rt, &ram, &over, &shape, &[4, 3, 2, 1, 0]);
+    leave(rt, &ram, &mut over, &shape, item, &[4, 3, 2, 1, 0]);
+    reads(rt, &ram, &over, &shape, rest);
+    Ok(())
+}
+
+// One of the five items comes to the front of the list, which is this one then.
+fn one_comes(rt: &impl Abort, alloc: Global, item: u64, list: &[u64]) -> Result<(), Memory>
+    requires item { item < 5 }
+    requires listed { IsOneOf (4 ∷ 3 ∷ 2 ∷ 1 ∷ 0 ∷ []) item }
+    requires list { list.now ≡ item ∷ without_number (4 ∷ 3 ∷ 2 ∷ 1 ∷ 0 ∷ []) item }
+{
+    let shape = shape_of_five();
+    let ram = Ram::new(alloc, 498)?;
+    let mut over = Overlay::new(alloc, 40)?;
+    five(rt, &ram, &mut over, &shape);
+    again(rt, &ram, &mut over, &shape, item, &[4, 3, 2, 1, 0]);
+    reads(rt, &ram, &over, &shape, list);
+    Ok(())
+}
+
+#[test]
+fn each_of_five_items_leaves_the_list(rt: HostRuntime) -> Result<(), Fail> {
+    one_leaves(&rt, rt.alloc(), 4, &[3, 2, 1, 0])?;
+    one_leaves(&rt, rt.alloc(), 3, &[4, 2, 1, 0])?;
+    one_leaves(&rt, rt.alloc(), 2, &[4, 3, 1, 0])?;
+    one_leaves(&rt, rt.alloc(), 1, &[4, 3, 2, 0])?;
+    one_leaves(&rt, rt.alloc(), 0, &[4, 3, 2, 1])?;
+    Ok(())
+}
+
+#[test]
+fn each_of_five_items_comes_to_the_front(rt: HostRuntime) -> Result<(), Fail> {
+    one_comes(&rt, rt.alloc(), 4, &[4, 3, 2, 1, 0])?;
+    one_comes(&rt, rt.alloc(), 3, &[3, 4, 2, 1, 0])?;
+    one_comes(&rt, rt.alloc(), 2, &[2, 4, 3, 1, 0])?;
+    one_comes(&rt, rt.alloc(), 1, &[1, 4, 3, 2, 0])?;
+    one_comes(&rt, rt.alloc(), 0, &[0, 4, 3, 2, 1])?;
     Ok(())
 }
