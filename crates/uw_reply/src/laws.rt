@@ -23,7 +23,10 @@ pub fn unbroken_line_is_kept()
     ensures { (text : List ℕ) → All (λ byte. is_break byte ≡ false) text → without_breaks text ≡ text }
 {}
 
-/// The status and the header lines bring as many line feeds into a reply as they are lines, whatever they hold.
+/// Whatever a status and header lines hold, their part of a reply has as many line feeds and carriage
+/// returns as it has lines, and no byte 0.
 pub fn lines_are_counted()
-    ensures { (reply : Reply) → length (filter (λ byte. byte == 10) (head_of_reply reply)) ≡ length reply.headers + 1 }
+    ensures feeds { (reply : Reply) → length (filter (λ byte. byte == 10) (head_of_reply reply)) ≡ 1 + length reply.headers }
+    ensures returns { (reply : Reply) → length (filter (λ byte. byte == 13) (head_of_reply reply)) ≡ 1 + length reply.headers }
+    ensures zeros { (reply : Reply) → length (filter (λ byte. byte == 0) (head_of_reply reply)) ≡ 0 }
 {}
