@@ -20,7 +20,7 @@ ended_line line = without_breaks line ++ codes "\r\n"
 abbrev pub begins_with : List ℕ → List ℕ → Bool
 begins_with text front = bytes_eq front (take (length front) text)
 
--- a reply whose status is written out so has a body: not where it tells of more to come, of no content or of nothing modified
+-- a reply whose status is written out so has a length line and a body: it begins with neither 1 nor 204 nor 304
 abbrev pub has_body : List ℕ → Bool
 has_body status = not (begins_with status (codes "1") || begins_with status (codes "204") || begins_with status (codes "304"))
 

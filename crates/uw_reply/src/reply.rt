@@ -28,7 +28,7 @@ pub fn reply_bytes(alloc: Global, reply: &Reply, head_only: bool) -> Result<Byte
     if reply.closed {
         return Ok(Bytes::new(alloc));
     }
-    let mut out = Bytes::from_vec(Vec::with_capacity(alloc, room_for(reply))?);
+    let mut out = Bytes::from_vec(Vec::with_capacity(alloc, room_for(reply, head_only))?);
     let with_body = put_status(&mut out, reply.status.as_slice())?;
     put_headers(&mut out, reply.headers.as_slice())?;
     put_rest(&mut out, with_body, reply.body.as_slice(), head_only)?;
@@ -36,10 +36,11 @@ pub fn reply_bytes(alloc: Global, reply: &Reply, head_only: bool) -> Result<Byte
 }
 
 // Room for all of a reply, so that its bytes are moved once.
-fn room_for(reply: &Reply) -> usize {
-    let mut room = FRAME
-        .saturating_add(reply.status.len())
-        .saturating_add(reply.body.len());
+fn room_for(reply: &Reply, head_only: bool) -> usize {
+    let mut room = FRAME.saturating_add(reply.status.len());
+    if !head_only {
+        room = room.saturating_add(reply.body.len());
+    }
     for header in reply.headers.as_slice() {
         room = room.saturating_add(header.len()).saturating_add(2);
     }
