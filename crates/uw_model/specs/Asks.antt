@@ -1,5 +1,5 @@
 -- What a desk is asked, how each ask ended, and what one call of a desk did (own rule).
-use Rattle.std.specs.Prelude.{ℕ, ◌<◌, Bool, true, false, List, [], ◌∷◌, filter, map, Option, None, Some, Result, Ok, Err}
+use Rattle.std.specs.Prelude.{◌≡◌, ◌⊎◌, ℕ, ◌<◌, Bool, true, false, List, [], ◌∷◌, ◌++◌, filter, map, Option, None, Some, Result, Ok, Err}
 use Rattle.uw_outside.specs.Lives.{IsSpent, Spends}
 use Rattle.uw_model.specs.declared.asks.Ask.{Ask}
 use Rattle.uw_model.specs.declared.asks.AskAnswer.{AskAnswer}
@@ -56,3 +56,20 @@ desk_asks moment asked = map (λ (a : Asked). record { moment = moment; ask = a.
 -- an ask of one of so many caches
 abbrev pub IsOfOneOf : ℕ → Ask → Type 0
 IsOfOneOf caches (asks.Cache cache call) = cache < caches
+
+-- asks that were answered led the desk on at one moment, and behind them others that ended as they say; the life let through the word writes that were made for them
+abbrev pub Led : (List Asking → ℕ → Type 0) → Option (List ℕ) → Option (List ℕ) → ℕ → List Asked → List Asking → Type 0
+Led led before now moment asked others = (writes : ℕ) × led (desk_asks moment asked ++ others) writes × Spends before now writes
+
+-- no ask was made, or one that found no memory
+abbrev pub IsUnanswered : (List Asking → ℕ → Type 0) → Option (List ℕ) → Option (List ℕ) → ℕ → Ask → Type 0
+IsUnanswered led before now moment ask = Led led before now moment [] [] ⊎ Leads led before now moment ask no_memory
+
+-- an ask was answered, and stands with its answer at the end of a list; or why it was not, and the list is as it was
+abbrev pub MakesAsk : {T : Type 0} → (List Asking → ℕ → Type 0) → Option (List ℕ) → Option (List ℕ) → ℕ → Ask → List Asked → List Asked → Result T DeskFault → Type 0
+MakesAsk led before now moment ask list after (Ok done) =
+    (answer : AskAnswer) × (after ≡ list ++ record { ask = ask; answer = answer } ∷ []) × Leads led before now moment ask (answered answer)
+MakesAsk led before now moment ask list after (Err (faults.Died true)) =
+    (after ≡ list) × IsSpent now × ((answer : AskAnswer) × Leads led before now moment ask (died_whole answer))
+MakesAsk led before now moment ask list after (Err (faults.Died false)) = (after ≡ list) × IsSpent now × Leads led before now moment ask died_absent
+MakesAsk led before now moment ask list after (Err faults.Memory) = (after ≡ list) × IsUnanswered led before now moment ask

@@ -2,6 +2,7 @@
 //! which a request asks the caches of a site.
 #![tactic(auto)]
 
+mod ask_list;
 pub mod asks;
 mod cache_list;
 pub mod calls;
@@ -17,6 +18,7 @@ mod placement;
 mod sizes;
 mod steps;
 
+pub use ask_list::AskList;
 pub use asks::{Ask, AskAnswer, Asked};
 pub use cache_list::CacheConfList;
 pub use calls::{Answer, Call, MathOp};
