@@ -1,11 +1,21 @@
 //! One request through the rules.
 #![tactic(auto)]
 
-ghost use Rattle.std.specs.Prelude.{ℕ, List, ◌≡◌};
-ghost use Rattle.uw_model.specs.declared.asks.Asked.{Asked};
-ghost use Rattle.uw_chain.specs.Courses.{Course, Reaches, ended};
+mod acting;
+mod asking;
+mod endings;
+pub mod faults;
+mod filling;
+mod judging;
+pub mod outcome;
+pub mod request;
+mod routing;
+pub mod searches;
+pub mod verdict;
 
-/// Test.
-pub fn law()
-    ensures { (x : ℕ) (asks : List Asked) → Reaches (ended x) asks (ended x) → Reaches (ended x) asks (ended x) }
-{}
+pub use faults::{ChainEnd, ChainFault, Routed};
+pub use outcome::{Outcome, RouteEnd};
+pub use request::Request;
+pub use routing::{route, route_with};
+pub use searches::Searches;
+pub use verdict::Verdict;

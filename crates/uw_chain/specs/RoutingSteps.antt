@@ -1,0 +1,144 @@
+-- What the parts of routing do.
+use Rattle.std.specs.Prelude.{◌≡◌, ℕ, Bool, true, false, List, [], ◌∷◌, ◌++◌, Option, None, Some, Result, Ok, Err, length, ◌==◌}
+use Rattle.std.specs.Str.{bytes_eq}
+use Rattle.uw_outside.specs.Lives.{IsSpent}
+use Rattle.uw_base.specs.declared.variables.Pair.{Pair}
+use Rattle.uw_model.specs.declared.asks.Ask.{Ask}
+use Rattle.uw_model.specs.declared.asks.AskAnswer.{AskAnswer}
+use Rattle.uw_model.specs.declared.asks.Asked.{Asked}
+use Rattle.uw_model.specs.declared.calls.Call.{Call}
+use Rattle.uw_model.specs.declared.desk.DeskFault.{DeskFault}
+use Rattle.uw_model.specs.declared.desk.DeskFault.TheVariants as desks
+use Rattle.uw_model.specs.Asks.{Asking, answered, died_absent, died_whole, Leads, IsUnanswered}
+use Rattle.uw_rules.specs.declared.compiled.Condition.{Condition}
+use Rattle.uw_rules.specs.declared.compiled.Condition.TheVariants as asks
+use Rattle.uw_chain.specs.declared.faults.ChainEnd.{ChainEnd}
+use Rattle.uw_chain.specs.declared.faults.ChainEnd.TheVariants as chains
+use Rattle.uw_chain.specs.declared.verdict.Verdict.{Verdict}
+use Rattle.uw_chain.specs.declared.verdict.Verdict.TheVariants as verdicts
+use Rattle.uw_chain.specs.declared.outcome.Outcome.{Outcome}
+use Rattle.uw_chain.specs.declared.outcome.Outcome.TheVariants as outcomes
+use Rattle.uw_chain.specs.declared.request.Request.{Request}
+use Rattle.uw_chain.specs.declared.judging.Comparison.{Comparison}
+use Rattle.uw_chain.specs.declared.judging.Comparison.TheVariants as comparisons
+use Rattle.uw_chain.specs.declared.acting.Want.{Want}
+use Rattle.uw_rules.specs.declared.compiled.Action.{Action}
+use Rattle.uw_rules.specs.declared.compiled.Action.TheVariants as does
+use Rattle.uw_chain.specs.Courses.{Course, asking, ended}
+use Rattle.uw_chain.specs.Endings.{end_overlong}
+use Rattle.uw_chain.specs.Runs.{Follows, Stops}
+use Rattle.uw_chain.specs.Tests.{about_text, asking_cache, comparing, filled_within, has_back, has_front, has_within, verdict_of}
+use Rattle.uw_chain.specs.Actions.{cache_ask, value_outcome, with_answer}
+
+-- ---- courses
+
+-- a course was followed to its end by asks that were put at the end of a list, or not to its end
+abbrev pub RunsTo : {X : Type 0} → (List Asking → ℕ → Type 0) → Option (List ℕ) → Option (List ℕ) → ℕ → Course X → List Asked → List Asked → Result X ChainEnd → Type 0
+RunsTo led before now moment course list after (Ok result) = (made : List Asked) × (after ≡ list ++ made) × Follows led before now moment course made result
+RunsTo led before now moment course list after (Err end) = (made : List Asked) × (after ≡ list ++ made) × Stops led before now moment course made end
+
+-- the worker died
+abbrev pub has_died_following : {X : Type 0} → Result X ChainEnd → Bool
+has_died_following (Ok result) = false
+has_died_following (Err (chains.Died whole)) = true
+has_died_following (Err chains.Memory) = false
+
+-- the end of a chain that a desk's fault is
+abbrev pub end_of_fault : DeskFault → ChainEnd
+end_of_fault (desks.Died whole) = chains.Died whole
+end_of_fault desks.Memory = chains.Memory
+
+-- an ask was answered, and stands with its answer at the end of a list; or why it was not
+abbrev pub AsksOnce : {T : Type 0} → (List Asking → ℕ → Type 0) → Option (List ℕ) → Option (List ℕ) → ℕ → Ask → List Asked → List Asked → Result T ChainEnd → Type 0
+AsksOnce led before now moment ask list after (Ok done) =
+    (answer : AskAnswer) × (after ≡ list ++ record { ask = ask; answer = answer } ∷ []) × Leads led before now moment ask (answered answer)
+AsksOnce led before now moment ask list after (Err (chains.Died true)) =
+    (after ≡ list) × IsSpent now × ((answer : AskAnswer) × Leads led before now moment ask (died_whole answer))
+AsksOnce led before now moment ask list after (Err (chains.Died false)) = (after ≡ list) × IsSpent now × Leads led before now moment ask died_absent
+AsksOnce led before now moment ask list after (Err chains.Memory) = (after ≡ list) × IsUnanswered led before now moment ask
+
+-- ---- conditions
+
+-- two texts, unless one is longer than its limit
+abbrev pub both_within : Option (List ℕ) → Option (List ℕ) → Option (List ℕ × List ℕ)
+both_within None other = None
+both_within (Some text) None = None
+both_within (Some text) (Some other) = Some (text, other)
+
+-- what a comparison says of two texts
+abbrev pub compares : Comparison → List ℕ → List ℕ → Bool
+compares comparisons.Equal = bytes_eq
+compares comparisons.Front = has_front
+compares comparisons.Back = has_back
+compares comparisons.Within = has_within
+
+-- the condition asks a cache
+abbrev pub is_ask : Condition → Bool
+is_ask (asks.InCache key cache) = true
+is_ask _ = false
+
+-- the condition is about a pattern
+abbrev pub is_regexp : Condition → Bool
+is_regexp (asks.Regexp text pattern) = true
+is_regexp _ = false
+
+-- the course of a compiled condition, unless it is about a pattern
+abbrev pub course_of_compiled : List Pair → ℕ → Condition → Course Verdict
+course_of_compiled vars moment (asks.Equal text other) = comparing (filled_within text vars [] moment) (filled_within other vars [] moment) bytes_eq
+course_of_compiled vars moment (asks.StartsWith text other) = comparing (filled_within text vars [] moment) (filled_within other vars [] moment) has_front
+course_of_compiled vars moment (asks.EndsWith text other) = comparing (filled_within text vars [] moment) (filled_within other vars [] moment) has_back
+course_of_compiled vars moment (asks.Contains text other) = comparing (filled_within text vars [] moment) (filled_within other vars [] moment) has_within
+course_of_compiled vars moment (asks.Empty text) = about_text (filled_within text vars [] moment) (λ one. verdict_of (length one == 0))
+course_of_compiled vars moment (asks.Regexp text pattern) = ended verdicts.Missed
+course_of_compiled vars moment (asks.InCache key cache) = asking_cache (filled_within key vars [] moment) cache
+
+-- ---- actions
+
+-- the action asks a cache
+abbrev pub is_asking : Action → Bool
+is_asking (does.Cache key content_type cache) = true
+is_asking (does.CacheVar key cache var) = true
+is_asking (does.CacheSet write) = true
+is_asking (does.CacheUpdate write) = true
+is_asking (does.CacheDel key cache var) = true
+is_asking (does.CacheMath op key amount expires cache var) = true
+is_asking _ = false
+
+-- the template of the key that an action asks for
+abbrev pub key_in : Action → List ℕ
+key_in (does.Cache key content_type cache) = key
+key_in (does.CacheVar key cache var) = key
+key_in (does.CacheSet write) = write.key
+key_in (does.CacheUpdate write) = write.key
+key_in (does.CacheDel key cache var) = key
+key_in (does.CacheMath op key amount expires cache var) = key
+key_in _ = []
+
+-- the number of the cache that an action asks
+abbrev pub cache_in : Action → Option ℕ
+cache_in (does.Cache key content_type cache) = cache
+cache_in (does.CacheVar key cache var) = cache
+cache_in (does.CacheSet write) = write.cache
+cache_in (does.CacheUpdate write) = write.cache
+cache_in (does.CacheDel key cache var) = cache
+cache_in (does.CacheMath op key amount expires cache var) = cache
+cache_in _ = None
+
+-- the variable that takes the answer of an action
+abbrev pub var_in : Action → Option (List ℕ)
+var_in (does.CacheVar key cache var) = Some var
+var_in (does.CacheSet write) = write.var
+var_in (does.CacheUpdate write) = write.var
+var_in (does.CacheDel key cache var) = var
+var_in (does.CacheMath op key amount expires cache var) = var
+var_in _ = None
+
+-- what is done with the answer of an action
+abbrev pub used_by : Action → List ℕ → Request → AskAnswer → Outcome
+used_by (does.Cache key content_type cache) text request answer = value_outcome text request answer
+used_by action text request answer = outcomes.GoesOn (with_answer (var_in action) request answer)
+
+-- the course of an action that asks, if its texts are within their limit
+abbrev pub course_of_want : Request → Action → Option Want → Course Outcome
+course_of_want request action None = ended (outcomes.Ends (end_overlong request))
+course_of_want request action (Some want) = asking (cache_ask want.cache want.call) (λ answer. ended (used_by action want.content_type request answer))

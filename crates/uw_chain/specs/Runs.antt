@@ -1,0 +1,52 @@
+-- How the code follows a course: the asks that it made, and why it stopped (own rule).
+use Rattle.std.specs.Prelude.{◌≡◌, ◌⊎◌, ℕ, Bool, true, false, List, [], ◌∷◌, ◌++◌, Option, Result, Ok, Err}
+use Rattle.uw_outside.specs.Lives.{IsSpent}
+use Rattle.uw_base.specs.declared.variables.Pair.{Pair}
+use Rattle.uw_model.specs.declared.asks.Ask.{Ask}
+use Rattle.uw_model.specs.declared.asks.AskAnswer.{AskAnswer}
+use Rattle.uw_model.specs.declared.asks.Asked.{Asked}
+use Rattle.uw_model.specs.Asks.{Asking, died_absent, died_whole, no_memory, Led}
+use Rattle.uw_rules.specs.WrittenRules.{WrittenRule}
+use Rattle.uw_chain.specs.declared.faults.ChainEnd.{ChainEnd}
+use Rattle.uw_chain.specs.declared.faults.ChainEnd.TheVariants as chains
+use Rattle.uw_chain.specs.declared.faults.ChainFault.{ChainFault}
+use Rattle.uw_chain.specs.declared.faults.Routed.{Routed}
+use Rattle.uw_chain.specs.declared.outcome.RouteEnd.{RouteEnd}
+use Rattle.uw_chain.specs.Courses.{Course, Reaches, asking, ended}
+use Rattle.uw_chain.specs.Routing.{Naming, course_of_request, RoutingRun}
+
+-- a course was followed to its end by these asks, which led the desk on
+abbrev pub Follows : {X : Type 0} → (List Asking → ℕ → Type 0) → Option (List ℕ) → Option (List ℕ) → ℕ → Course X → List Asked → X → Type 0
+Follows led before now moment course asked result = Reaches course asked (ended result) × Led led before now moment asked []
+
+-- these asks of a course led the desk on, and the next one after them ended so, without an answer that anybody was told
+abbrev pub BreaksOff : {X : Type 0} → (List Asking → ℕ → Type 0) → Option (List ℕ) → Option (List ℕ) → ℕ → Course X → List Asked → (Ask → Asking) → Type 0
+BreaksOff {X} led before now moment course asked last =
+    (ask : Ask) × (more : AskAnswer → Course X) × Reaches course asked (asking ask more) × Led led before now moment asked (last ask ∷ [])
+
+-- why a course was not followed to its end, behind these asks: the worker died in the next one, whose answer nobody was told where it counts; or there was no
+-- memory, for the next ask or for something else
+abbrev pub Stops : {X : Type 0} → (List Asking → ℕ → Type 0) → Option (List ℕ) → Option (List ℕ) → ℕ → Course X → List Asked → ChainEnd → Type 0
+Stops led before now moment course asked (chains.Died true) =
+    IsSpent now × ((answer : AskAnswer) × BreaksOff led before now moment course asked (λ ask. record { moment = moment; ask = ask; end = died_whole answer }))
+Stops led before now moment course asked (chains.Died false) =
+    IsSpent now × BreaksOff led before now moment course asked (λ ask. record { moment = moment; ask = ask; end = died_absent })
+Stops {X} led before now moment course asked chains.Memory =
+    ((rest : Course X) × Reaches course asked rest × Led led before now moment asked [])
+    ⊎ BreaksOff led before now moment course asked (λ ask. record { moment = moment; ask = ask; end = no_memory })
+
+-- a request was routed: its asks and its end are a run of the rules, and the asks led the desk on; or why it was not
+abbrev pub Routes : (List Asking → ℕ → Type 0) → Option (List ℕ) → Option (List ℕ) → Naming → List WrittenRule → ℕ → List Pair → Result Routed ChainFault → Type 0
+Routes led before now naming rules moment vars (Ok routed) =
+    Follows led before now moment (course_of_request naming rules moment vars) routed.asks (record { reply = routed.reply; head_only = routed.head_only })
+Routes led before now naming rules moment vars (Err fault) = Stops led before now moment (course_of_request naming rules moment vars) fault.done fault.end
+
+-- the worker died
+abbrev pub is_death : ChainEnd → Bool
+is_death (chains.Died whole) = true
+is_death chains.Memory = false
+
+-- the worker died in a request
+abbrev pub has_died_routing : Result Routed ChainFault → Bool
+has_died_routing (Ok routed) = false
+has_died_routing (Err fault) = is_death fault.end
