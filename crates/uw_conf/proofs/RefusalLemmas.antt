@@ -127,12 +127,18 @@ refused_is_least text fault small says =
     let within : nat_lt most_text_bytes (length text) ≡ false = not_lt most_text_bytes (length text) small in
     refused_of (lines text) (least_refused (lines text)) (reading_after blank_reading (lines text)).conf fault (least_tells (lines text)) (rw within at says)
 
--- a text that is not refused has no refused line, and says what all its lines say
+-- a text that is not refused, by how it was judged
 said_of : (b : Bool) (fault : ConfFault) (found : Option ConfFault) (said conf : Options) → cond b (Err fault) (unless_fault found said) ≡ Ok conf → (found ≡ None) × (conf ≡ said)
 said_of true fault found said conf e = absurd (cc)
 said_of false fault None said conf e = (refl, cc)
 said_of false fault (Some other) said conf e = absurd (cc)
 
+-- a text that is not refused has no least refused line
+pub nothing_refused : (text : List ℕ) (conf : Options) → configuration_of text ≡ Ok conf → least_refused (lines text) ≡ None
+nothing_refused text conf says =
+    (said_of (nat_lt most_text_bytes (length text)) _ (least_refused (lines text)) (reading_after blank_reading (lines text)).conf conf says).0
+
+-- nor a refused one at any number, and it says what all its lines say
 pub none_refused : (text : List ℕ) (conf : Options) → configuration_of text ≡ Ok conf
     → ((number : ℕ) → refusal_at (lines text) number ≡ None) × (conf ≡ (reading_after blank_reading (lines text)).conf)
 none_refused text conf says =

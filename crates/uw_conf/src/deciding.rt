@@ -1,5 +1,7 @@
 // What a configuration says, or its least refused line, from a walk over its lines and from the table of its rules.
 ghost use Rattle.std.specs.Prelude.{◌≡◌, ◌<◌, ◌^◌, ℕ, List, Some, Ok, Err, IfOk, length};
+ghost use Rattle.uw_rules.specs.CacheNumbers.{AskCachesBelow};
+ghost use Rattle.uw_rules.specs.Compiled.{rules_of};
 ghost use Rattle.uw_rules.specs.Tables.{AreRuleLines};
 ghost use Rattle.uw_conf.specs.Configuration.{lesser_fault};
 ghost use Rattle.uw_conf.specs.DecidingSteps.{Decides, ReadsLines};
@@ -75,11 +77,13 @@ fn read_table<M: Patterns>(alloc: Global, walk: Walk, make: &mut M) -> Result<Co
 
 /// What a configuration says: its options in the section `uwsgi`, each on a line of its own, with its rules, whose
 /// patterns `make` compiles; or its least refused line. A text that is too large is refused as a whole. A rule is
-/// refused as `PatternRefused` only where `make` refused its pattern and counted that.
+/// refused as `PatternRefused` only where `make` refused its pattern and counted that. The rules ask caches of the
+/// configuration alone, by their places in it.
 pub fn read_conf<M: Patterns>(alloc: Global, text: &[u8], make: &mut M) -> Result<Conf, ConfError>
     requires { length text.now < 2 ^ 32 }
     ensures says { ReadsConf text.now (M.faults make.old) (M.faults make.new) result }
     ensures sound { IfOk result (λ conf. AreCaches conf.caches) }
+    ensures routes { IfOk result (λ conf. AskCachesBelow (length conf.caches) (rules_of conf.routes)) }
 {
     if MOST_TEXT_BYTES < text.len() {
         return Err(ConfError::Refused(ConfFault {

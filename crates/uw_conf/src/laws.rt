@@ -1,7 +1,8 @@
 //! Laws of the definitions, over all texts. Each is the contract of a function that does nothing.
-ghost use Rattle.std.specs.Prelude.{◌≡◌, ℕ, ◌≤◌, ◌++◌, List, [], length, unwrap_or, false, None, Some, Ok, Err};
+ghost use Rattle.std.specs.Prelude.{◌≡◌, ℕ, ◌≤◌, ◌++◌, List, [], length, map, unwrap_or, false, None, Some, Ok, Err};
 ghost use Rattle.std.specs.List.{AllByRecursion};
 ghost use Rattle.std.specs.Str.Lines.{lines};
+ghost use Rattle.uw_model.specs.declared.conf.CacheConf.{CacheConf};
 ghost use Rattle.uw_model.specs.Entries.{IsCacheConf};
 ghost use Rattle.uw_conf.specs.declared.conf.Options.{Options};
 ghost use Rattle.uw_conf.specs.Caches.{blank_draft, conf_of, region_bytes, most_region_bytes};
@@ -10,6 +11,7 @@ ghost use Rattle.uw_conf.specs.declared.options.OptionKind.TheVariants as of;
 ghost use Rattle.uw_conf.specs.Configuration.{configuration_of, most_text_bytes, said_by};
 ghost use Rattle.uw_conf.specs.Laws.{IsLeastRefusal, IsPlainLine, last_value, number_or, refusal_at, settings_of};
 ghost use Rattle.uw_conf.specs.Reading.{blank_reading, reading_after};
+ghost use Rattle.uw_conf.specs.Routes.{cache_names_of};
 ghost use Rattle.uw_conf.specs.Sizes.{region_words};
 ghost use Rattle.uw_conf.specs.Sound.{HasLimits, HaveOwnNames};
 
@@ -60,6 +62,12 @@ pub fn options_count_by_their_last_line()
         → conf.spool_freq ≡ number_or 30 (last_value of.SpoolFreq (settings_of text)) }
     ensures socket { (text : List ℕ) (conf : Options) → configuration_of text ≡ Ok conf
         → conf.socket ≡ unwrap_or (last_value of.Socket (settings_of text)) [] }
+{}
+
+/// The names under which the rules of a text are read are those of its caches, in their order.
+pub fn a_configuration_names_its_caches()
+    ensures { (text : List ℕ) (conf : Options) → configuration_of text ≡ Ok conf
+        → cache_names_of (lines text) ≡ map (λ (cache : CacheConf). cache.name) conf.caches }
 {}
 
 /// Lines of other sections change nothing, as long as each is a text of UTF-8: as many other ones in their place leave

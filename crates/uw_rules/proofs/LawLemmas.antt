@@ -133,7 +133,7 @@ first_none : (a b : Option RuleKind) → first_of_two a b ≡ None → (a ≡ No
 first_none None b h = (refl, h)
 first_none (Some kind) b h = absurd (cc)
 
-not_refused : (names : List (List ℕ)) (labels : List ℕ → Option ℕ) (here : ℕ) (said : WrittenRule) → refusal_of_rule names labels here false said ≡ None
+pub not_refused : (names : List (List ℕ)) (labels : List ℕ → Option ℕ) (here : ℕ) (said : WrittenRule) → refusal_of_rule names labels here false said ≡ None
     → (early_refusal here said ≡ None) × (late_refusal names labels here said ≡ None)
 unfolding refusal_of_rule
 not_refused names labels here said h =

@@ -6,3 +6,4 @@ pub mod RefusalLemmas
 pub mod LineLemmas
 pub mod TableLemmas
 pub mod LawLemmas
+pub mod CacheLemmas

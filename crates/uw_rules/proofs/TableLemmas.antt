@@ -26,7 +26,7 @@ rules_push names labels (r ∷ rs) [] one last h k = absurd h
 rules_push names labels (r ∷ rs) (w ∷ ws) one last h k = (h.0, rules_push names labels rs ws one last h.1 k)
 
 -- the refusal of the rule of a line
-refusal_here : (names : List (List ℕ)) (lines : List RuleLine) (here : ℕ) (line : RuleLine) (refused : Bool) → slice_get lines here ≡ Some line
+pub refusal_here : (names : List (List ℕ)) (lines : List RuleLine) (here : ℕ) (line : RuleLine) (refused : Bool) → slice_get lines here ≡ Some line
     → rule_refusal_at names lines here refused ≡ refusal_of_rule names (place_of_label lines) here refused (rule_of_line line)
 unfolding rule_refusal_at
 refusal_here names lines here line refused is =

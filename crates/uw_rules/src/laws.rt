@@ -1,11 +1,14 @@
 //! Laws of the definitions, over all tables. Each is the contract of a function that does nothing.
 ghost use Rattle.std.specs.Prelude.{◌≡◌, ◌<◌, ℕ, List, Some, None, true, false, length, slice_get, Option};
 ghost use Rattle.uw_rules.specs.declared.grammar.ActionName.TheVariants as actions;
+ghost use Rattle.uw_rules.specs.declared.compiled.Rule.{Rule};
 ghost use Rattle.uw_rules.specs.declared.lines.RuleLine.{RuleLine};
 ghost use Rattle.uw_rules.specs.Arguments.{is_ahead, is_label};
+ghost use Rattle.uw_rules.specs.CacheNumbers.{AskCachesBelow};
 ghost use Rattle.uw_rules.specs.Compiled.{cache_named};
 ghost use Rattle.uw_rules.specs.Grammar.{ArgumentShape, action_of};
 ghost use Rattle.uw_rules.specs.Rules.{place_of_label, rule_refusal_at, table_of};
+ghost use Rattle.uw_rules.specs.Tables.{AreRulesOf, NoneRefusedBefore};
 ghost use Rattle.uw_rules.specs.WrittenRules.{Phrase, WrittenTest, label, rule};
 
 /// The place of a label is ahead of a rule exactly where a later line that is not refused is that label.
@@ -28,4 +31,11 @@ pub fn a_goto_leads_ahead()
 /// The number of a cache is below the count of caches.
 pub fn a_number_of_a_cache_is_that_of_one()
     ensures { (names : List (List ℕ)) (text : Option (List ℕ)) (number : ℕ) → cache_named names text ≡ Some number → number < length names }
+{}
+
+/// Rules that are those of lines of which none is refused ask caches of numbers below the count alone, wherever their
+/// labels lead.
+pub fn rules_ask_caches_that_there_are()
+    ensures { (names : List (List ℕ)) (labels : List ℕ → Option ℕ) (lines : List RuleLine) (rules : List Rule)
+        → NoneRefusedBefore names lines (length lines) → AreRulesOf names labels rules (table_of lines) → AskCachesBelow (length names) rules }
 {}

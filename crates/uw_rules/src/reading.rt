@@ -1,8 +1,10 @@
 // A table of rules, line by line.
-ghost use Rattle.std.specs.Prelude.{◌≡◌, ◌<◌, ◌≤◌, ◌^◌, ℕ, List, length, IfSome};
+ghost use Rattle.std.specs.Prelude.{◌≡◌, ◌<◌, ◌≤◌, ◌^◌, ℕ, List, length, IfOk, IfSome};
 ghost use Rattle.std.specs.Option.{option_copied};
 ghost use Rattle.std.specs.Str.{IsUtf8};
 ghost use Rattle.uw_outside.specs.Faults.{HasCause};
+ghost use Rattle.uw_rules.specs.CacheNumbers.{AskCachesBelow};
+ghost use Rattle.uw_rules.specs.Compiled.{rules_of};
 ghost use Rattle.uw_rules.specs.LabelSteps.{label_place};
 ghost use Rattle.uw_rules.specs.Rules.{pattern_of_rule, place_of_label};
 ghost use Rattle.uw_rules.specs.Tables.{AreRuleLines, ReadsRules, tells_of_maker};
@@ -128,8 +130,9 @@ fn read_lines<M: Patterns>(
 }
 
 /// What a table of rules says: its rules, compiled; or its first refused line. The caches have these names, by whose
-/// places they are numbered, and there are so many shared areas. `PatternRefused` just where the maker refused a pattern
-/// and counted that.
+/// places they are numbered, and there are so many shared areas. Each number of a cache in the rules is below the number
+/// of names, and a rule that asks the first cache stands only where there is one. `PatternRefused` just where the maker
+/// refused a pattern and counted that.
 pub fn read_rules<M: Patterns>(
     alloc: Global,
     lines: &RuleLineList,
@@ -141,6 +144,7 @@ pub fn read_rules<M: Patterns>(
     requires names { length names.now < 2 ^ 32 }
     ensures reads { ReadsRules names.now lines.now (M.faults make.old) (M.faults make.new) result }
     ensures cause { HasCause (M.faults make.old) (M.faults make.new) (tells_of_maker result) }
+    ensures caches { IfOk result (λ table. AskCachesBelow (length names.now) (rules_of table)) }
 {
     let site = Site {
         labels: labels_of(alloc, lines.as_slice())?,
