@@ -34,9 +34,9 @@ within_at : (text other : List ℕ) → has_within text other ≡ true → (k : 
 unfolding has_within
 within_at [] other h = (0, front_occurs [] other h)
 within_at (byte ∷ text) other h = elim (or_cases (has_front (byte ∷ text) other) (has_within text other) h) [
-    inl here ↦ (0, front_occurs (byte ∷ text) other here)
+  | inl here ↦ (0, front_occurs (byte ∷ text) other here)
   | inr there ↦ let later = within_at text other there in (suc later.0, occurs_later byte text other later.0 later.1)
-  ]
+]
 
 within_true : (text other : List ℕ) (k : ℕ) → OccursAt text other k → has_within text other ≡ true
 unfolding has_within
