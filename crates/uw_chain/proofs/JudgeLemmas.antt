@@ -1,18 +1,27 @@
 -- The test of a rule, against its course.
-use Rattle.std.proofs.Common.{◌≡◌, refl, sym, ap, ◌∙◌, subst, ℕ, ◌+◌, ◌<◌, Bool, true, false, List, [], ◌∷◌, ◌++◌, length, Option, None, Some, unwrap_or, Result, Ok, Err, arith}
+use Rattle.std.proofs.Common.{◌≡◌, refl, sym, ap, ap₂, ◌∙◌, subst, ℕ, ◌+◌, ◌<◌, Bool, true, false, List, [], ◌∷◌, ◌++◌, length, Option, None, Some, unwrap_or, Result, Ok, Err, arith}
+use Rattle.std.proofs.lemmas.Bool.{true≢false}
 use Rattle.std.specs.Result.{IsErrAnd}
+use Rattle.regex.specs.declared.bytes.regex.Regex.{Regex}
 use Rattle.uw_base.specs.declared.variables.Pair.{Pair}
 use Rattle.uw_model.specs.declared.asks.AskAnswer.{AskAnswer}
 use Rattle.uw_model.specs.declared.asks.Asked.{Asked}
 use Rattle.uw_model.specs.declared.calls.Call.TheVariants as calls
 use Rattle.uw_model.specs.Asks.{Asking}
+use Rattle.uw_rules.specs.declared.grammar.ConditionName.{ConditionName}
+use Rattle.uw_rules.specs.declared.grammar.ConditionName.TheVariants as conditions
+use Rattle.uw_rules.specs.declared.compiled.Condition.{Condition}
+use Rattle.uw_rules.specs.declared.compiled.Condition.TheVariants as asks
+use Rattle.uw_rules.specs.Arguments.{second_half}
+use Rattle.uw_rules.specs.Compiled.{IsConditionOf, or_empty}
+use Rattle.uw_rules.specs.Patterns.{IsPatternOf}
 use Rattle.uw_chain.specs.declared.faults.ChainEnd.{ChainEnd}
 use Rattle.uw_chain.specs.declared.verdict.Verdict.{Verdict}
 use Rattle.uw_chain.specs.declared.verdict.Verdict.TheVariants as verdicts
 use Rattle.uw_chain.specs.Courses.{Course, ended, asking}
 use Rattle.uw_chain.specs.Actions.{cache_ask}
-use Rattle.uw_chain.specs.RoutingSteps.{AsksOnce, RunsTo}
-use Rattle.uw_chain.specs.Tests.{asking_cache, is_flag_set, verdict_of}
+use Rattle.uw_chain.specs.RoutingSteps.{AsksOnce, RunsTo, course_of_compiled, is_regexp}
+use Rattle.uw_chain.specs.Tests.{about_text, asking_cache, course_of_condition, filled_within, is_flag_set, verdict_of, verdict_of_pattern}
 use Rattle.uw_chain.proofs.CourseLemmas.{RunsTo-same, RunsTo-answered, RunsTo-unanswered}
 
 -- an error that is a given one
@@ -37,3 +46,44 @@ cache_unanswered T led before now moment filled field key cache list after end r
     subst P (sym (error_is result end is))
     (RunsTo-same led before now moment _ (asking_cache filled cache) list after (Err end) (asks_cache filled field key cache same some)
     (RunsTo-unanswered T led before now moment (cache_ask cache (calls.Exists key)) list after (λ answer. ended (verdict_of (is_flag_set answer))) end h))
+
+-- ---- a compiled condition, and the one that is written
+
+-- a condition about a pattern has the course of the written one
+pub regexp_course : (names : List (List ℕ)) (vars : List Pair) (moment : ℕ) (captures : List (List ℕ)) (text : List ℕ) (pattern : Regex) (name : ConditionName)
+    (argument : Option (List ℕ)) (verdict : Verdict) → captures ≡ [] → IsConditionOf names (asks.Regexp text pattern) name argument
+    → ((written : List ℕ) → IsPatternOf pattern written → about_text (filled_within text vars captures moment) (verdict_of_pattern written) ≡ ended verdict)
+    → course_of_condition names vars moment name argument ≡ ended verdict
+regexp_course names vars moment captures text pattern conditions.Equal argument verdict none h found = absurd (true≢false (ap is_regexp h))
+regexp_course names vars moment captures text pattern conditions.StartsWith argument verdict none h found = absurd (true≢false (ap is_regexp h))
+regexp_course names vars moment captures text pattern conditions.EndsWith argument verdict none h found = absurd (true≢false (ap is_regexp h))
+regexp_course names vars moment captures text pattern conditions.Contains argument verdict none h found = absurd (true≢false (ap is_regexp h))
+regexp_course names vars moment captures text pattern conditions.Empty argument verdict none h found = absurd (true≢false (ap is_regexp h))
+regexp_course names vars moment captures text pattern conditions.InCache argument verdict none h found = absurd (true≢false (ap is_regexp h))
+regexp_course names vars moment captures text pattern conditions.Regexp argument verdict none h found =
+    let written = or_empty (second_half 59 argument) in
+    ap₂ (λ (t : List ℕ) (c : List (List ℕ)). about_text (filled_within t vars c moment) (verdict_of_pattern written)) (sym h.0) (sym none) ∙ found written h.1
+
+-- no other condition is the one that is written for a pattern
+not_regexp : (names : List (List ℕ)) (condition : Condition) (argument : Option (List ℕ))
+    → ((text : List ℕ) (pattern : Regex) → condition ≡ asks.Regexp text pattern → ⊥)
+    → IsConditionOf names condition conditions.Regexp argument → ⊥
+not_regexp names (asks.Equal text other) argument plain h = h
+not_regexp names (asks.StartsWith text other) argument plain h = h
+not_regexp names (asks.EndsWith text other) argument plain h = h
+not_regexp names (asks.Contains text other) argument plain h = h
+not_regexp names (asks.Empty text) argument plain h = h
+not_regexp names (asks.InCache key cache) argument plain h = h
+not_regexp names (asks.Regexp text pattern) argument plain h = plain text pattern refl
+
+-- each other condition has the course of the written one
+pub compiled_course : (names : List (List ℕ)) (vars : List Pair) (moment : ℕ) (condition : Condition) (name : ConditionName) (argument : Option (List ℕ))
+    → ((text : List ℕ) (pattern : Regex) → condition ≡ asks.Regexp text pattern → ⊥) → IsConditionOf names condition name argument
+    → course_of_compiled vars moment condition ≡ course_of_condition names vars moment name argument
+compiled_course names vars moment condition conditions.Equal argument plain h = ap (course_of_compiled vars moment) h
+compiled_course names vars moment condition conditions.StartsWith argument plain h = ap (course_of_compiled vars moment) h
+compiled_course names vars moment condition conditions.EndsWith argument plain h = ap (course_of_compiled vars moment) h
+compiled_course names vars moment condition conditions.Contains argument plain h = ap (course_of_compiled vars moment) h
+compiled_course names vars moment condition conditions.Empty argument plain h = ap (course_of_compiled vars moment) h
+compiled_course names vars moment condition conditions.InCache argument plain h = ap (course_of_compiled vars moment) h
+compiled_course names vars moment condition conditions.Regexp argument plain h = absurd (not_regexp names condition argument plain h)
