@@ -1,7 +1,9 @@
 -- The test of a rule, against its course.
 use Rattle.std.proofs.Common.{◌≡◌, refl, sym, ap, ap₂, ◌∙◌, subst, ℕ, ◌+◌, ◌<◌, Bool, true, false, List, [], ◌∷◌, ◌++◌, length, Option, None, Some, unwrap_or, Result, Ok, Err, arith}
 use Rattle.std.proofs.lemmas.Bool.{true≢false}
+use Rattle.std.specs.Option.{IsSomeAnd}
 use Rattle.std.specs.Result.{IsErrAnd}
+use Rattle.uw_base.specs.Variables.{value_of}
 use Rattle.regex.specs.declared.bytes.regex.Regex.{Regex}
 use Rattle.uw_base.specs.declared.variables.Pair.{Pair}
 use Rattle.uw_model.specs.declared.asks.AskAnswer.{AskAnswer}
@@ -13,16 +15,20 @@ use Rattle.uw_rules.specs.declared.grammar.ConditionName.TheVariants as conditio
 use Rattle.uw_rules.specs.declared.compiled.Condition.{Condition}
 use Rattle.uw_rules.specs.declared.compiled.Condition.TheVariants as asks
 use Rattle.uw_rules.specs.Arguments.{second_half}
-use Rattle.uw_rules.specs.Compiled.{IsConditionOf, or_empty}
+use Rattle.uw_rules.specs.Compiled.{IsConditionOf, IsTestOf, or_empty}
+use Rattle.uw_rules.specs.Grammar.{ArgumentShape, condition_of, subject_variable}
 use Rattle.uw_rules.specs.Patterns.{IsPatternOf}
+use Rattle.uw_rules.specs.WrittenRules.{WrittenTest, always, holding, matching}
+use Rattle.uw_rules.specs.declared.compiled.Test.TheVariants as tests
+use Rattle.uw_rules.specs.declared.grammar.Subject.{Subject}
 use Rattle.uw_chain.specs.declared.faults.ChainEnd.{ChainEnd}
 use Rattle.uw_chain.specs.declared.verdict.Verdict.{Verdict}
 use Rattle.uw_chain.specs.declared.verdict.Verdict.TheVariants as verdicts
 use Rattle.uw_chain.specs.Courses.{Course, ended, asking}
 use Rattle.uw_chain.specs.Actions.{cache_ask}
 use Rattle.uw_chain.specs.RoutingSteps.{AsksOnce, RunsTo, course_of_compiled, is_regexp}
-use Rattle.uw_chain.specs.Tests.{about_text, asking_cache, course_of_condition, filled_within, is_flag_set, verdict_of, verdict_of_pattern}
-use Rattle.uw_chain.proofs.CourseLemmas.{RunsTo-same, RunsTo-answered, RunsTo-unanswered}
+use Rattle.uw_chain.specs.Tests.{about_text, asking_cache, course_of_condition, course_of_known, course_of_test, filled_within, is_flag_set, verdict_of, verdict_of_pattern, verdict_when}
+use Rattle.uw_chain.proofs.CourseLemmas.{RunsTo-fault, RunsTo-same, RunsTo-then_ended, RunsTo-unanswered}
 
 -- an error that is a given one
 pub error_is : {X : Type 0} → (result : Result X ChainEnd) (end : ChainEnd) → IsErrAnd result (λ other. other ≡ end) → result ≡ Err end
@@ -87,3 +93,61 @@ compiled_course names vars moment condition conditions.Contains argument plain h
 compiled_course names vars moment condition conditions.Empty argument plain h = ap (course_of_compiled vars moment) h
 compiled_course names vars moment condition conditions.InCache argument plain h = ap (course_of_compiled vars moment) h
 compiled_course names vars moment condition conditions.Regexp argument plain h = absurd (not_regexp names condition argument plain h)
+
+-- ---- a compiled test, and the one that is written
+
+pub always_course : (names : List (List ℕ)) (vars : List Pair) (moment : ℕ) (written : WrittenTest) → IsTestOf names tests.Always written
+    → course_of_test names vars moment written ≡ ended (verdicts.Met [])
+always_course names vars moment always is = refl
+always_course names vars moment (matching subject text) is = absurd is
+always_course names vars moment (holding negated phrase) is = absurd is
+
+-- the subject has this value
+pub matching_course : (names : List (List ℕ)) (vars : List Pair) (moment : ℕ) (subject : Subject) (pattern : Regex) (value : List ℕ) (verdict : Verdict)
+    (written : WrittenTest) → IsTestOf names (tests.Matches subject pattern) written → value ≡ value_of vars (subject_variable subject)
+    → ((text : List ℕ) → IsPatternOf pattern text → verdict ≡ verdict_of_pattern text value) → course_of_test names vars moment written ≡ ended verdict
+matching_course names vars moment subject pattern value verdict always is at found = absurd is
+matching_course names vars moment subject pattern value verdict (holding negated phrase) is at found = absurd is
+matching_course names vars moment subject pattern value verdict (matching written text) is at found =
+    ap (λ (s : Subject). ended (verdict_of_pattern text (value_of vars (subject_variable s)))) (sym is.0)
+    ∙ ap (λ (v : List ℕ). ended (verdict_of_pattern text v)) (sym at) ∙ ap ended (sym (found text is.1))
+
+-- how the course of a condition was followed, for each that it may be the compiled one of
+abbrev pub RunsAsConditions : (List Asking → ℕ → Type 0) → Option (List ℕ) → Option (List ℕ) → ℕ → List Pair → Condition → List Asked → List Asked → Result Verdict ChainEnd → Type 0
+RunsAsConditions led before now moment vars condition list after result =
+    (names : List (List ℕ)) (name : ConditionName) (argument : Option (List ℕ)) → IsConditionOf names condition name argument
+    → RunsTo led before now moment (course_of_condition names vars moment name argument) list after result
+
+known_runs : (led : List Asking → ℕ → Type 0) (before now : Option (List ℕ)) (moment : ℕ) (names : List (List ℕ)) (vars : List Pair) (condition : Condition)
+    (known : Option (ConditionName × ArgumentShape)) (argument : Option (List ℕ)) (list after : List Asked) (result : Result Verdict ChainEnd)
+    → IsSomeAnd known (λ row. IsConditionOf names condition row.0 argument) → RunsAsConditions led before now moment vars condition list after result
+    → RunsTo led before now moment (course_of_known names vars moment known argument) list after result
+known_runs led before now moment names vars condition None argument list after result is runs = absurd is
+known_runs led before now moment names vars condition (Some row) argument list after result is runs = runs names row.0 argument is
+
+-- its condition was judged
+pub holding_judged : (led : List Asking → ℕ → Type 0) (before now : Option (List ℕ)) (moment : ℕ) (names : List (List ℕ)) (vars : List Pair) (negated : Bool)
+    (condition : Condition) (written : WrittenTest) (list after : List Asked) (verdict said : Verdict) → IsTestOf names (tests.Holds negated condition) written
+    → RunsAsConditions led before now moment vars condition list after (Ok verdict) → said ≡ verdict_when negated verdict
+    → RunsTo led before now moment (course_of_test names vars moment written) list after (Ok said)
+holding_judged led before now moment names vars negated condition always list after verdict said is runs when = absurd is
+holding_judged led before now moment names vars negated condition (matching subject text) list after verdict said is runs when = absurd is
+holding_judged led before now moment names vars negated condition (holding written phrase) list after verdict said is runs when =
+    let known = condition_of phrase.name in
+    RunsTo-then_ended led before now moment (course_of_known names vars moment known phrase.argument) (λ v. ended (verdict_when written v)) list after verdict said
+    (known_runs led before now moment names vars condition known phrase.argument list after (Ok verdict) is.1 runs)
+    (ap (λ (n : Bool). ended (verdict_when n verdict)) (sym is.0) ∙ ap ended (sym when))
+
+-- its condition was not
+pub holding_unjudged : (led : List Asking → ℕ → Type 0) (before now : Option (List ℕ)) (moment : ℕ) (names : List (List ℕ)) (vars : List Pair) (negated : Bool)
+    (condition : Condition) (written : WrittenTest) (list after : List Asked) (end : ChainEnd) (result : Result Verdict ChainEnd)
+    → IsTestOf names (tests.Holds negated condition) written → RunsAsConditions led before now moment vars condition list after (Err end)
+    → IsErrAnd result (λ other. other ≡ end) → RunsTo led before now moment (course_of_test names vars moment written) list after result
+holding_unjudged led before now moment names vars negated condition always list after end result is runs same = absurd is
+holding_unjudged led before now moment names vars negated condition (matching subject text) list after end result is runs same = absurd is
+holding_unjudged led before now moment names vars negated condition (holding written phrase) list after end result is runs same =
+    let known = condition_of phrase.name in
+    let P : Result Verdict ChainEnd → Type 0 = λ r. RunsTo led before now moment (course_of_test names vars moment (holding written phrase)) list after r in
+    subst P (sym (error_is result end same))
+    (RunsTo-fault led before now moment (course_of_known names vars moment known phrase.argument) (λ v. ended (verdict_when written v)) list after end
+    (known_runs led before now moment names vars condition known phrase.argument list after (Err end) is.1 runs))
