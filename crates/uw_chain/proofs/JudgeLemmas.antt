@@ -1,12 +1,11 @@
 -- The test of a rule, against its course.
-use Rattle.std.proofs.Common.{◌≡◌, refl, sym, ap, ap₂, ◌∙◌, subst, ℕ, ◌+◌, ◌<◌, Bool, true, false, List, [], ◌∷◌, ◌++◌, length, Option, None, Some, unwrap_or, Result, Ok, Err, arith}
+use Rattle.std.proofs.Common.{◌≡◌, refl, sym, ap, ap₂, ◌∙◌, subst, ℕ, Bool, List, [], Option, None, Some, Result, Ok, Err}
 use Rattle.std.proofs.lemmas.Bool.{true≢false}
 use Rattle.std.specs.Option.{IsSomeAnd}
 use Rattle.std.specs.Result.{IsErrAnd}
 use Rattle.uw_base.specs.Variables.{value_of}
 use Rattle.regex.specs.declared.bytes.regex.Regex.{Regex}
 use Rattle.uw_base.specs.declared.variables.Pair.{Pair}
-use Rattle.uw_model.specs.declared.asks.AskAnswer.{AskAnswer}
 use Rattle.uw_model.specs.declared.asks.Asked.{Asked}
 use Rattle.uw_model.specs.declared.calls.Call.TheVariants as calls
 use Rattle.uw_model.specs.Asks.{Asking}
@@ -24,7 +23,7 @@ use Rattle.uw_rules.specs.declared.grammar.Subject.{Subject}
 use Rattle.uw_chain.specs.declared.faults.ChainEnd.{ChainEnd}
 use Rattle.uw_chain.specs.declared.verdict.Verdict.{Verdict}
 use Rattle.uw_chain.specs.declared.verdict.Verdict.TheVariants as verdicts
-use Rattle.uw_chain.specs.Courses.{Course, ended, asking}
+use Rattle.uw_chain.specs.Courses.{ended, asking}
 use Rattle.uw_chain.specs.Actions.{cache_ask}
 use Rattle.uw_chain.specs.RoutingSteps.{AsksOnce, RunsTo, course_of_compiled, is_regexp}
 use Rattle.uw_chain.specs.Tests.{about_text, asking_cache, course_of_condition, course_of_known, course_of_test, filled_within, is_flag_set, verdict_of, verdict_of_pattern, verdict_when}
@@ -36,6 +35,10 @@ error_is (Ok done) end h = absurd h
 error_is (Err other) end h = ap Err h
 
 -- ---- a condition that asks a cache
+
+-- its course where its text is longer than the limit
+pub cache_overlong : (filled field : Option (List ℕ)) (cache : Option ℕ) → field ≡ filled → field ≡ None → asking_cache filled cache ≡ ended verdicts.Overlong
+cache_overlong filled field cache same none = ap (λ (k : Option (List ℕ)). asking_cache k cache) (sym same ∙ none)
 
 -- its course where its text is within the limit
 asks_cache : (filled field : Option (List ℕ)) (key : List ℕ) (cache : Option ℕ) → field ≡ filled → field ≡ Some key
@@ -82,8 +85,7 @@ not_regexp names (asks.Empty text) argument plain h = h
 not_regexp names (asks.InCache key cache) argument plain h = h
 not_regexp names (asks.Regexp text pattern) argument plain h = plain text pattern refl
 
--- each other condition has the course of the written one
-pub compiled_course : (names : List (List ℕ)) (vars : List Pair) (moment : ℕ) (condition : Condition) (name : ConditionName) (argument : Option (List ℕ))
+compiled_course : (names : List (List ℕ)) (vars : List Pair) (moment : ℕ) (condition : Condition) (name : ConditionName) (argument : Option (List ℕ))
     → ((text : List ℕ) (pattern : Regex) → condition ≡ asks.Regexp text pattern → ⊥) → IsConditionOf names condition name argument
     → course_of_compiled vars moment condition ≡ course_of_condition names vars moment name argument
 compiled_course names vars moment condition conditions.Equal argument plain h = ap (course_of_compiled vars moment) h
@@ -94,6 +96,13 @@ compiled_course names vars moment condition conditions.Empty argument plain h = 
 compiled_course names vars moment condition conditions.InCache argument plain h = ap (course_of_compiled vars moment) h
 compiled_course names vars moment condition conditions.Regexp argument plain h = absurd (not_regexp names condition argument plain h)
 
+-- each other condition has the course of the written one
+pub compiled_judged : (names : List (List ℕ)) (vars : List Pair) (moment : ℕ) (condition : Condition) (name : ConditionName) (argument : Option (List ℕ))
+    (verdict : Verdict) → ((text : List ℕ) (pattern : Regex) → condition ≡ asks.Regexp text pattern → ⊥) → IsConditionOf names condition name argument
+    → course_of_compiled vars moment condition ≡ ended verdict → course_of_condition names vars moment name argument ≡ ended verdict
+compiled_judged names vars moment condition name argument verdict plain is judged =
+    sym (compiled_course names vars moment condition name argument plain is) ∙ judged
+
 -- ---- a compiled test, and the one that is written
 
 pub always_course : (names : List (List ℕ)) (vars : List Pair) (moment : ℕ) (written : WrittenTest) → IsTestOf names tests.Always written
@@ -103,14 +112,14 @@ always_course names vars moment (matching subject text) is = absurd is
 always_course names vars moment (holding negated phrase) is = absurd is
 
 -- the subject has this value
-pub matching_course : (names : List (List ℕ)) (vars : List Pair) (moment : ℕ) (subject : Subject) (pattern : Regex) (value : List ℕ) (verdict : Verdict)
-    (written : WrittenTest) → IsTestOf names (tests.Matches subject pattern) written → value ≡ value_of vars (subject_variable subject)
+pub matching_course : (names : List (List ℕ)) (vars : List Pair) (moment : ℕ) (subject : Subject) (pattern : Regex) (key value : List ℕ)
+    (verdict : Verdict) (written : WrittenTest) → IsTestOf names (tests.Matches subject pattern) written → key ≡ subject_variable subject → value ≡ value_of vars key
     → ((text : List ℕ) → IsPatternOf pattern text → verdict ≡ verdict_of_pattern text value) → course_of_test names vars moment written ≡ ended verdict
-matching_course names vars moment subject pattern value verdict always is at found = absurd is
-matching_course names vars moment subject pattern value verdict (holding negated phrase) is at found = absurd is
-matching_course names vars moment subject pattern value verdict (matching written text) is at found =
+matching_course names vars moment subject pattern key value verdict always is named at found = absurd is
+matching_course names vars moment subject pattern key value verdict (holding negated phrase) is named at found = absurd is
+matching_course names vars moment subject pattern key value verdict (matching written text) is named at found =
     ap (λ (s : Subject). ended (verdict_of_pattern text (value_of vars (subject_variable s)))) (sym is.0)
-    ∙ ap (λ (v : List ℕ). ended (verdict_of_pattern text v)) (sym at) ∙ ap ended (sym (found text is.1))
+    ∙ ap (λ (v : List ℕ). ended (verdict_of_pattern text v)) (sym (at ∙ ap (value_of vars) named)) ∙ ap ended (sym (found text is.1))
 
 -- how the course of a condition was followed, for each that it may be the compiled one of
 abbrev pub RunsAsConditions : (List Asking → ℕ → Type 0) → Option (List ℕ) → Option (List ℕ) → ℕ → List Pair → Condition → List Asked → List Asked → Result Verdict ChainEnd → Type 0

@@ -1,5 +1,5 @@
 -- Searches for the patterns of rules.
-use Rattle.std.proofs.Common.{◌≡◌, refl, sym, ap, ap₂, ◌∙◌, subst, ℕ, zero, suc, ◌+◌, ◌-◌, ◌*◌, ◌<◌, ◌≤◌, min, true, List, [], ◌∷◌, ◌++◌, length, Option, None, Some, Result, IfOk, IfSome, All, vec_len, option_map, append_assoc, arith}
+use Rattle.std.proofs.Common.{◌≡◌, refl, sym, ap, ap₂, ◌∙◌, subst, ℕ, zero, suc, ◌+◌, ◌-◌, ◌*◌, ◌<◌, min, true, List, [], ◌∷◌, ◌++◌, length, Option, None, Some, Result, IfOk, IfSome, All, option_map, append_assoc, arith}
 use Rattle.std.proofs.lemmas.Bool.{false≢true}
 use Rattle.std.proofs.lemmas.List.{length-map}
 use Rattle.std.proofs.lemmas.List.Elements.{All-head, All-tail}
@@ -22,7 +22,7 @@ use Rattle.uw_chain.specs.declared.searches.Search.{Search}
 use Rattle.uw_chain.specs.declared.searches.Slot.{Slot}
 use Rattle.uw_chain.specs.declared.verdict.Verdict.{Verdict}
 use Rattle.uw_chain.specs.declared.verdict.Verdict.TheVariants as verdicts
-use Rattle.uw_chain.specs.KeptSearches.{FitSlots, FitsCondition, FitsPattern, FitsRule, IsSearchOf}
+use Rattle.uw_chain.specs.KeptSearches.{FitSlots, FitsCondition, FitsRule, IsSearchOf}
 use Rattle.uw_chain.specs.Tests.{group_text, group_texts, verdict_of_match, verdict_of_pattern, verdict_of_read}
 
 -- ---- captures
@@ -39,10 +39,7 @@ captures_more subject found texts new all text group end within is pushed h =
 
 -- ---- one pattern for another
 
--- what a verdict reads of a match
-Spans : Type 0
-Spans = ℕ × ℕ × (ℕ → Option ℕ)
-
+-- the captures and the verdict, from what the slots of a match are given
 texts_of_slots : List ℕ → (ℕ → Option ℕ) → ℕ → ℕ → List (List ℕ)
 texts_of_slots subject slot zero group = []
 texts_of_slots subject slot (suc more) group = group_text subject (both (slot (2 * group)) (slot (2 * group + 1))) ∷ texts_of_slots subject slot more (group + 1)

@@ -1,5 +1,4 @@
 use Rattle.std.proofs.Common.{List, ℕ, ap, sym, subst, ◌∙◌}
-use Rattle.uw_base.specs.Variables.{value_of}
 use Rattle.uw_rules.specs.declared.compiled.Test.{Test}
 use Rattle.uw_rules.specs.Compiled.{IsTestOf}
 use Rattle.uw_chain.specs.declared.verdict.Verdict.TheVariants as verdicts
@@ -29,8 +28,8 @@ returns-in_ok-search-in-Matches-clause-runs g c = λ names written is.
     let vars = c.args.vars.now in let desk = c.args.desk.now in let verdict = c.in_ok-search-in-Matches.field-0 in
     RunsTo-ended (g.D.Desk.leads desk desk) (g.L.Life.allowances c.args.life.now) c.args.moment (course_of_test names vars c.args.moment written) c.args.asks.now verdict
     (g.met.D.Desk.leads_none desk)
-    (matching_course names vars c.args.moment c.in-Matches.subject c.in-Matches.pattern c.get.result.now verdict written
-    (subst (λ (test : Test). IsTestOf names test written) c.in-Matches.is is) (c.get.ensures ∙ ap (value_of vars) c.variable.ensures)
+    (matching_course names vars c.args.moment c.in-Matches.subject c.in-Matches.pattern c.variable.result.now c.get.result.now verdict written
+    (subst (λ (test : Test). IsTestOf names test written) c.in-Matches.is is) c.variable.ensures c.get.ensures
     c.in_ok-search-in-Matches.ensures.found)
 
 pub returns-in_ok-verdict-in-Holds-clause-runs : goal.returns-in_ok-verdict-in-Holds-clause-runs

@@ -1,8 +1,7 @@
-use Rattle.std.proofs.Common.{ap, sym, ◌∙◌, Option, List, ℕ}
 use Rattle.uw_chain.specs.Tests.{asking_cache, filled_within}
 use Rattle.uw_chain.specs.declared.verdict.Verdict.TheVariants as verdicts
-use Rattle.uw_chain.proofs.CourseLemmas.{RunsTo-ended, RunsTo-memory, RunsTo-answered, RunsTo-unanswered}
-use Rattle.uw_chain.proofs.JudgeLemmas.{cache_unanswered}
+use Rattle.uw_chain.proofs.CourseLemmas.{RunsTo-ended}
+use Rattle.uw_chain.proofs.JudgeLemmas.{cache_overlong, cache_unanswered}
 use Rattle.uw_chain.proofs.judging.judge_cache.Goals as goal
 
 pub returns-in_default-clause-runs : goal.returns-in_default-clause-runs
@@ -10,7 +9,8 @@ returns-in_default-clause-runs g c =
     let filling = c.args.filling.now in let desk = c.args.desk.now in
     RunsTo-ended (g.D.Desk.leads desk desk) (g.L.Life.allowances c.args.life.now) filling.moment
     (asking_cache (filled_within c.args.key.now filling.vars.now filling.captures.now filling.moment) c.args.cache) c.args.asks.now verdicts.Overlong
-    (g.met.D.Desk.leads_none desk) (ap (λ (key : Option (List ℕ)). asking_cache key c.args.cache) (sym c.in_ok-key.ensures ∙ c.in_default.is))
+    (g.met.D.Desk.leads_none desk)
+    (cache_overlong (filled_within c.args.key.now filling.vars.now filling.captures.now filling.moment) c.in_ok-key.field-0 c.args.cache c.in_ok-key.ensures c.in_default.is)
 
 pub returns-in_err-ask_cache-clause-runs : goal.returns-in_err-ask_cache-clause-runs
 returns-in_err-ask_cache-clause-runs g c =

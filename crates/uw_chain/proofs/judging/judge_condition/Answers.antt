@@ -1,9 +1,9 @@
-use Rattle.std.proofs.Common.{sym, subst, ◌∙◌}
+use Rattle.std.proofs.Common.{subst}
 use Rattle.uw_rules.specs.declared.compiled.Condition.{Condition}
 use Rattle.uw_rules.specs.Compiled.{IsConditionOf}
 use Rattle.uw_chain.specs.Tests.{course_of_condition}
 use Rattle.uw_chain.proofs.CourseLemmas.{RunsTo-ended}
-use Rattle.uw_chain.proofs.JudgeLemmas.{compiled_course, regexp_course}
+use Rattle.uw_chain.proofs.JudgeLemmas.{compiled_judged, regexp_course}
 use Rattle.uw_chain.proofs.judging.judge_condition.Goals as goal
 
 pub returns-in_ok-judge_pattern-in-Regexp-clause-runs : goal.returns-in_ok-judge_pattern-in-Regexp-clause-runs
@@ -19,4 +19,5 @@ returns-in_ok-judge_texts-in_default-clause-runs g c = λ names name argument is
     let filling = c.args.filling.now in let vars = filling.vars.now in let desk = c.args.desk.now in
     RunsTo-ended (g.D.Desk.leads desk desk) (g.L.Life.allowances c.args.life.now) filling.moment (course_of_condition names vars filling.moment name argument) c.args.asks.now
     c.in_ok-judge_texts-in_default.field-0 (g.met.D.Desk.leads_none desk)
-    (sym (compiled_course names vars filling.moment c.args.condition.now name argument c.in_default.not-Regexp is) ∙ c.in_ok-judge_texts-in_default.ensures)
+    (compiled_judged names vars filling.moment c.args.condition.now name argument c.in_ok-judge_texts-in_default.field-0 c.in_default.not-Regexp is
+    c.in_ok-judge_texts-in_default.ensures)

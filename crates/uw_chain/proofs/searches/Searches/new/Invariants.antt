@@ -1,5 +1,4 @@
 use Rattle.std.proofs.Common.{◌≡◌, All, None, length}
-use Rattle.uw_rules.specs.Compiled.{rules_of}
 use Rattle.uw_chain.proofs.searches.Searches.new.Given as goal
 
 abbrev pub invariant-loop : goal.invariant-loop

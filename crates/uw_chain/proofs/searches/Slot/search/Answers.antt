@@ -1,4 +1,4 @@
-use Rattle.std.proofs.Common.{◌≡◌, ◌<◌, ℕ, All, IfSome, subst, Option, Result, Ok, arith}
+use Rattle.std.proofs.Common.{◌<◌, IfSome, subst, Option, Result, Ok, arith}
 use Rattle.std.proofs.lemmas.List.Elements.{All-from_get_or}
 use Rattle.uw_base.specs.declared.bytes.Memory.{Memory}
 use Rattle.uw_chain.specs.declared.searches.Search.{Search}
