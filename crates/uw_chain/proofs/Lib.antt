@@ -1,0 +1,4 @@
+pub mod CourseLemmas
+pub mod JudgeLemmas
+pub mod SearchLemmas
+pub mod WithinLemmas
