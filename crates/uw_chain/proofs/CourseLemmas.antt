@@ -1,0 +1,193 @@
+-- Courses of asks, and how code follows them.
+use Rattle.std.proofs.Common.{◌≡◌, ◌⊎◌, inl, inr, refl, sym, ap, ◌∙◌, subst, ℕ, ◌+◌, Bool, true, false, List, [], ◌∷◌, ◌++◌, Option, None, Some, Result, Ok, Err, append_assoc, arith}
+use Rattle.std.specs.Option.{option_map}
+use Rattle.std.proofs.lemmas.List.{append-nil, map-append}
+use Rattle.std.proofs.lemmas.List.Elements.{filter-append}
+use Rattle.uw_outside.specs.Lives.{raised, Spends, IsSpent}
+use Rattle.uw_outside.proofs.Lives.{Spends-none}
+use Rattle.uw_model.specs.declared.asks.Ask.{Ask}
+use Rattle.uw_model.specs.declared.asks.AskAnswer.{AskAnswer}
+use Rattle.uw_model.specs.declared.asks.Asked.{Asked}
+use Rattle.uw_model.specs.declared.asks.Ask.TheVariants as asks
+use Rattle.uw_model.specs.Asks.{Asking, answered, Leads, Led, desk_asks, is_of_desk}
+use Rattle.uw_chain.specs.declared.faults.ChainEnd.{ChainEnd}
+use Rattle.uw_chain.specs.declared.faults.ChainEnd.TheVariants as chains
+use Rattle.uw_chain.specs.Courses.{Course, ended, asking, and_then, Reaches}
+use Rattle.uw_chain.specs.Runs.{Follows, Stops}
+use Rattle.uw_chain.specs.RoutingSteps.{AsksOnce, RunsTo}
+
+-- ---- what a course reaches
+
+-- a course behind which another one follows
+pub Reaches-then : {X Y : Type 0} → (course : Course X) (asked : List Asked) (rest : Course X) (next : X → Course Y)
+    → Reaches course asked rest → Reaches (and_then course next) asked (and_then rest next)
+Reaches-then course [] rest next h = ap (λ k. and_then k next) h
+Reaches-then (ended result) (one ∷ asked) rest next h = absurd h
+Reaches-then (asking ask more) (one ∷ asked) rest next h = (h.0, Reaches-then (more one.answer) asked rest next h.1)
+
+-- some asks, and then others
+pub Reaches-more : {X : Type 0} → (course : Course X) (early late : List Asked) (between rest : Course X)
+    → Reaches course early between → Reaches between late rest → Reaches course (early ++ late) rest
+Reaches-more course [] late between rest first more = let P : Course _ → Type 0 = λ from. Reaches from late rest in subst P (sym first) more
+Reaches-more (ended result) (one ∷ early) late between rest first more = absurd first
+Reaches-more (asking ask next) (one ∷ early) late between rest first more = (first.0, Reaches-more (next one.answer) early late between rest first.1 more)
+
+-- a course that ends, and then the one that its result decides
+pub Reaches-next : {X Y : Type 0} → (course : Course X) (early late : List Asked) (result : X) (next : X → Course Y) (rest : Course Y)
+    → Reaches course early (ended result) → Reaches (next result) late rest → Reaches (and_then course next) (early ++ late) rest
+Reaches-next course early late result next rest first more =
+    Reaches-more (and_then course next) early late (next result) rest (Reaches-then course early (ended result) next first) more
+
+-- ---- what the asks of a course did
+
+-- word writes that were let through, and then more of them
+pub Spends-more : (before middle now : Option (List ℕ)) (first more : ℕ) → Spends before middle first → Spends middle now more → Spends before now (first + more)
+Spends-more before middle now first more early late = early ∙ ap (option_map (raised first)) late ∙ raised_twice now
+  where
+    raised_twice : (told : Option (List ℕ)) → option_map (raised first) (option_map (raised more) told) ≡ option_map (raised (first + more)) told
+    raised_twice None = refl
+    raised_twice (Some []) = refl
+    raised_twice (Some (count ∷ others)) = let e : (count + more) + first ≡ count + (first + more) = omega arith in ap (λ (n : ℕ). Some (n ∷ others)) e
+
+-- the asks of a desk add up
+pub desk_asks-append : (moment : ℕ) (early late : List Asked) → desk_asks moment (early ++ late) ≡ desk_asks moment early ++ desk_asks moment late
+desk_asks-append moment early late = simp (filter-append, map-append)
+
+-- each ask is one that a desk is asked
+pub desk_asks-one : (moment : ℕ) (one : Asked) → desk_asks moment (one ∷ []) ≡ record { moment = moment; ask = one.ask; end = answered one.answer } ∷ []
+desk_asks-one moment one = of_ask one.ask one.answer
+  where
+    of_ask : (ask : Ask) (answer : AskAnswer)
+        → desk_asks moment (record { ask = ask; answer = answer } ∷ []) ≡ record { moment = moment; ask = ask; end = answered answer } ∷ []
+    of_ask (asks.Cache cache call) answer = refl
+
+-- no ask was made
+pub Led-none : (led : List Asking → ℕ → Type 0) (told : Option (List ℕ)) (moment : ℕ) → led [] 0 → Led led told told moment [] []
+Led-none led told moment none = (0, none, Spends-none told)
+
+-- one ask was made
+pub Led-one : (led : List Asking → ℕ → Type 0) (before now : Option (List ℕ)) (moment : ℕ) (ask : Ask) (answer : AskAnswer)
+    → Leads led before now moment ask (answered answer) → Led led before now moment (record { ask = ask; answer = answer } ∷ []) []
+Led-one led before now moment ask answer h =
+    (h.0, subst (λ (made : List Asking). led (made ++ []) h.0) (sym (desk_asks-one moment (record { ask = ask; answer = answer }))) h.1, h.2)
+
+-- asks that led the desk on, and then others that led it on from there
+pub Led-more : (led first_led late_led : List Asking → ℕ → Type 0) (before middle now : Option (List ℕ)) (moment : ℕ) (early late : List Asked) (others : List Asking)
+    → ((early late : List Asking) (first more : ℕ) → first_led early first → late_led late more → led (early ++ late) (first + more))
+    → Led first_led before middle moment early [] → Led late_led middle now moment late others → Led led before now moment (early ++ late) others
+Led-more led first_led late_led before middle now moment early late others adds first more = (
+  first.0 + more.0,
+  subst (λ (made : List Asking). led made (first.0 + more.0)) one_list
+      (adds (desk_asks moment early ++ []) (desk_asks moment late ++ others) first.0 more.0 first.1 more.1),
+  Spends-more before middle now first.0 more.0 first.2 more.2,
+)
+  where
+    one_list : (desk_asks moment early ++ []) ++ (desk_asks moment late ++ others) ≡ desk_asks moment (early ++ late) ++ others
+    one_list =
+        ap (λ (l : List Asking). l ++ (desk_asks moment late ++ others)) (append-nil (desk_asks moment early))
+        ∙ sym (append_assoc (desk_asks moment early) (desk_asks moment late) others)
+        ∙ ap (λ (l : List Asking). l ++ others) (sym (desk_asks-append moment early late))
+
+-- ---- how a course was followed
+
+-- a course that has ended
+pub RunsTo-ended : {X : Type 0} → (led : List Asking → ℕ → Type 0) (told : Option (List ℕ)) (moment : ℕ) (course : Course X) (list : List Asked) (result : X)
+    → led [] 0 → course ≡ ended result → RunsTo led told told moment course list list (Ok result)
+RunsTo-ended led told moment course list result none is = ([], sym (append-nil list), (is, Led-none led told moment none))
+
+-- no memory before the first ask
+pub RunsTo-memory : {X : Type 0} → (led : List Asking → ℕ → Type 0) (told : Option (List ℕ)) (moment : ℕ) (course : Course X) (list : List Asked)
+    → led [] 0 → RunsTo led told told moment course list list (Err chains.Memory)
+RunsTo-memory led told moment course list none = ([], sym (append-nil list), inl (course, refl, Led-none led told moment none))
+
+-- one ask that was answered, and then the end that its answer decides
+pub RunsTo-answered : {T X : Type 0} → (led : List Asking → ℕ → Type 0) (before now : Option (List ℕ)) (moment : ℕ) (ask : Ask) (list after : List Asked) (done : T)
+    (next : AskAnswer → Course X) (result : X) → AsksOnce led before now moment ask list after (Ok done)
+    → ((answer : AskAnswer) → after ≡ list ++ record { ask = ask; answer = answer } ∷ [] → next answer ≡ ended result)
+    → RunsTo led before now moment (asking ask next) list after (Ok result)
+RunsTo-answered led before now moment ask list after done next result h decides =
+    (record { ask = ask; answer = h.0 } ∷ [], h.1, ((refl, decides h.0 h.1), Led-one led before now moment ask h.0 h.2))
+
+-- one ask that was not answered
+pub RunsTo-unanswered : {X : Type 0} → (T : Type 0) (led : List Asking → ℕ → Type 0) (before now : Option (List ℕ)) (moment : ℕ) (ask : Ask) (list after : List Asked)
+    (next : AskAnswer → Course X) (end : ChainEnd) → AsksOnce {T = T} led before now moment ask list after (Err end)
+    → RunsTo led before now moment (asking ask next) list after (Err end)
+RunsTo-unanswered T led before now moment ask list after next (chains.Died true) h =
+    ([], h.0 ∙ sym (append-nil list), (h.1, (h.2.0, (ask, next, refl, h.2.1))))
+RunsTo-unanswered T led before now moment ask list after next (chains.Died false) h = ([], h.0 ∙ sym (append-nil list), (h.1, (ask, next, refl, h.2)))
+RunsTo-unanswered T led before now moment ask list after next chains.Memory h =
+    ([], h.0 ∙ sym (append-nil list), elim h.1 [ inl none ↦ inl (asking ask next, refl, none) | inr one ↦ inr (ask, next, refl, one) ])
+
+-- the same course
+pub RunsTo-same : {X : Type 0} → (led : List Asking → ℕ → Type 0) (before now : Option (List ℕ)) (moment : ℕ) (course other : Course X) (list after : List Asked)
+    (result : Result X ChainEnd) → course ≡ other → RunsTo led before now moment course list after result → RunsTo led before now moment other list after result
+RunsTo-same led before now moment course other list after result same h =
+    let P : Course _ → Type 0 = λ way. RunsTo led before now moment way list after result in subst P same h
+
+-- ---- a course, and then the one that its result decides
+
+-- it ends at once
+pub RunsTo-then_ended : {X Y : Type 0} → (led : List Asking → ℕ → Type 0) (before now : Option (List ℕ)) (moment : ℕ) (course : Course X) (next : X → Course Y)
+    (list after : List Asked) (result : X) (other : Y) → RunsTo led before now moment course list after (Ok result) → next result ≡ ended other
+    → RunsTo led before now moment (and_then course next) list after (Ok other)
+RunsTo-then_ended led before now moment course next list after result other h is =
+    let P : Course _ → Type 0 = λ way. Reaches (and_then course next) h.0 way in
+    (h.0, h.1, (subst P is (Reaches-then course h.0 (ended result) next h.2.0), h.2.1))
+
+-- no memory before its first ask
+pub RunsTo-then_memory : {X Y : Type 0} → (led : List Asking → ℕ → Type 0) (before now : Option (List ℕ)) (moment : ℕ) (course : Course X) (next : X → Course Y)
+    (list after : List Asked) (result : X) → RunsTo led before now moment course list after (Ok result)
+    → RunsTo led before now moment (and_then course next) list after (Err chains.Memory)
+RunsTo-then_memory led before now moment course next list after result h =
+    (h.0, h.1, inl (next result, Reaches-then course h.0 (ended result) next h.2.0, h.2.1))
+
+-- the first one was not followed to its end
+pub RunsTo-fault : {X Y : Type 0} → (led : List Asking → ℕ → Type 0) (before now : Option (List ℕ)) (moment : ℕ) (course : Course X) (next : X → Course Y)
+    (list after : List Asked) (end : ChainEnd) → RunsTo led before now moment course list after (Err end)
+    → RunsTo led before now moment (and_then course next) list after (Err end)
+RunsTo-fault led before now moment course next list after (chains.Died true) h =
+    let why = h.2.1.1 in
+    (h.0, h.1, (h.2.0, (h.2.1.0, (why.0, λ answer. and_then (why.1 answer) next, Reaches-then course h.0 (asking why.0 why.1) next why.2, why.3))))
+RunsTo-fault led before now moment course next list after (chains.Died false) h =
+    let why = h.2.1 in
+    (h.0, h.1, (h.2.0, (why.0, λ answer. and_then (why.1 answer) next, Reaches-then course h.0 (asking why.0 why.1) next why.2, why.3)))
+RunsTo-fault led before now moment course next list after chains.Memory h = (
+  h.0,
+  h.1,
+  elim h.2 [
+    | inl short ↦ inl (and_then short.0 next, Reaches-then course h.0 short.0 next short.1, short.2)
+    | inr why ↦ inr (why.0, λ answer. and_then (why.1 answer) next, Reaches-then course h.0 (asking why.0 why.1) next why.2, why.3)
+  ],
+)
+
+-- it was followed in its turn
+pub RunsTo-then : {X Y : Type 0} → (led first_led late_led : List Asking → ℕ → Type 0) (before middle now : Option (List ℕ)) (moment : ℕ) (course : Course X)
+    (next : X → Course Y) (list between after : List Asked) (result : X) (end : Result Y ChainEnd)
+    → ((early late : List Asking) (first more : ℕ) → first_led early first → late_led late more → led (early ++ late) (first + more))
+    → RunsTo first_led before middle moment course list between (Ok result) → RunsTo late_led middle now moment (next result) between after end
+    → RunsTo led before now moment (and_then course next) list after end
+RunsTo-then led first_led late_led before middle now moment course next list between after result (Ok other) adds first more = (
+  first.0 ++ more.0,
+  more.1 ∙ ap (λ (l : List Asked). l ++ more.0) first.1 ∙ append_assoc list first.0 more.0,
+  (
+    Reaches-next course first.0 more.0 result next (ended other) first.2.0 more.2.0,
+    Led-more led first_led late_led before middle now moment first.0 more.0 [] adds first.2.1 more.2.1,
+  ),
+)
+RunsTo-then led first_led late_led before middle now moment course next list between after result (Err end) adds first more = (
+  first.0 ++ more.0,
+  more.1 ∙ ap (λ (l : List Asked). l ++ more.0) first.1 ∙ append_assoc list first.0 more.0,
+  stops end more.2,
+)
+  where
+    reaches : (rest : Course _) → Reaches (next result) more.0 rest → Reaches (and_then course next) (first.0 ++ more.0) rest
+    reaches rest h = Reaches-next course first.0 more.0 result next rest first.2.0 h
+
+    leads : (others : List Asking) → Led late_led middle now moment more.0 others → Led led before now moment (first.0 ++ more.0) others
+    leads others h = Led-more led first_led late_led before middle now moment first.0 more.0 others adds first.2.1 h
+
+    stops : (end : ChainEnd) → Stops late_led middle now moment (next result) more.0 end → Stops led before now moment (and_then course next) (first.0 ++ more.0) end
+    stops (chains.Died true) h = (h.0, (h.1.0, (h.1.1.0, h.1.1.1, reaches _ h.1.1.2, leads _ h.1.1.3)))
+    stops (chains.Died false) h = (h.0, (h.1.0, h.1.1, reaches _ h.1.2, leads _ h.1.3))
+    stops chains.Memory h =
+        elim h [ inl short ↦ inl (short.0, reaches short.0 short.1, leads [] short.2) | inr why ↦ inr (why.0, why.1, reaches _ why.2, leads _ why.3) ]

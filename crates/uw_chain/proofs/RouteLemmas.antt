@@ -1,0 +1,1 @@
+-- Rules, one after the other.
