@@ -1,19 +1,19 @@
 -- Courses of asks, and how code follows them.
-use Rattle.std.proofs.Common.{◌≡◌, ◌⊎◌, inl, inr, refl, sym, ap, ◌∙◌, subst, ℕ, ◌+◌, Bool, true, false, List, [], ◌∷◌, ◌++◌, Option, None, Some, Result, Ok, Err, append_assoc, arith}
+use Rattle.std.proofs.Common.{◌≡◌, inl, inr, refl, sym, ap, ◌∙◌, subst, ℕ, ◌+◌, true, false, List, [], ◌∷◌, ◌++◌, Option, None, Some, Result, Ok, Err, append_assoc, arith}
 use Rattle.std.specs.Option.{option_map}
 use Rattle.std.proofs.lemmas.List.{append-nil, map-append}
 use Rattle.std.proofs.lemmas.List.Elements.{filter-append}
-use Rattle.uw_outside.specs.Lives.{raised, Spends, IsSpent}
+use Rattle.uw_outside.specs.Lives.{raised, Spends}
 use Rattle.uw_outside.proofs.Lives.{Spends-none}
 use Rattle.uw_model.specs.declared.asks.Ask.{Ask}
 use Rattle.uw_model.specs.declared.asks.AskAnswer.{AskAnswer}
 use Rattle.uw_model.specs.declared.asks.Asked.{Asked}
 use Rattle.uw_model.specs.declared.asks.Ask.TheVariants as asks
-use Rattle.uw_model.specs.Asks.{Asking, answered, Leads, Led, desk_asks, is_of_desk}
+use Rattle.uw_model.specs.Asks.{Asking, answered, Leads, Led, desk_asks}
 use Rattle.uw_chain.specs.declared.faults.ChainEnd.{ChainEnd}
 use Rattle.uw_chain.specs.declared.faults.ChainEnd.TheVariants as chains
 use Rattle.uw_chain.specs.Courses.{Course, ended, asking, and_then, Reaches}
-use Rattle.uw_chain.specs.Runs.{Follows, Stops}
+use Rattle.uw_chain.specs.Runs.{Stops}
 use Rattle.uw_chain.specs.RoutingSteps.{AsksOnce, RunsTo}
 
 -- ---- what a course reaches
