@@ -1,5 +1,5 @@
 -- Rules, one after the other.
-use Rattle.std.proofs.Common.{◌≡◌, refl, sym, ap, ◌∙◌, subst, ℕ, zero, suc, ◌+◌, ◌-◌, ◌<◌, ◌≤◌, max, nat_lt, Bool, true, false, List, [], ◌∷◌, ◌++◌, length, get_or, set, drop, Option, None, Some, Result, Ok, Err, arith}
+use Rattle.std.proofs.Common.{◌≡◌, refl, sym, ap, ◌∙◌, subst, ℕ, zero, suc, ◌+◌, ◌-◌, ◌<◌, ◌≤◌, max, nat_lt, Bool, true, false, List, [], ◌∷◌, ◌++◌, length, get_or, set, drop, Option, None, Some, Result, Ok, Err, inl, arith}
 use Rattle.std.specs.Prelude.{IsSomeAnd}
 use Rattle.std.proofs.lemmas.Bool.{false≢true, ltb-false, ltb-true, le-ltb}
 use Rattle.std.proofs.lemmas.List.{drop_all}
@@ -31,9 +31,10 @@ use Rattle.uw_chain.specs.Courses.{Course, and_then, ended}
 use Rattle.uw_chain.specs.Endings.{end_of_table}
 use Rattle.uw_chain.specs.KeptSearches.{FitSlots, FitsRule}
 use Rattle.uw_chain.specs.Routing.{Naming, after_rule, course_of_phrase, course_of_rule, course_of_rules, course_of_verdict}
+use Rattle.uw_chain.specs.Runs.{Stops}
 use Rattle.uw_chain.specs.RoutingSteps.{RunsTo}
 use Rattle.uw_chain.specs.Tests.{course_of_test}
-use Rattle.uw_chain.proofs.CourseLemmas.{RunsTo-ended, RunsTo-fault, RunsTo-memory, RunsTo-same, RunsTo-then, RunsTo-then_ended, RunsTo-then_memory}
+use Rattle.uw_chain.proofs.CourseLemmas.{Led-none, RunsTo-ended, RunsTo-fault, RunsTo-memory, RunsTo-same, RunsTo-then, RunsTo-then_ended, RunsTo-then_memory}
 
 -- ---- what holds of rules one by one
 
@@ -334,6 +335,11 @@ jump_goes_on naming moment at number next written request is =
     let later : course_of_rules naming moment (max (at + 1) number) 0 (drop (number - (at + 1)) (drop (at + 1) written)) request
     ≡ course_of_rules naming moment next 0 (drop next written) request = rw (place, drop_twice (at + 1) (number - (at + 1)) written, steps) refl in
     sym (jumped naming moment (at + 1) number (drop (at + 1) written) request ∙ later)
+
+-- no memory before the first rule
+pub stops_first : (led : List Asking → ℕ → Type 0) (told : Option (List ℕ)) (moment : ℕ) (course : Course RouteEnd) (done : List Asked) → led [] 0 → done ≡ []
+    → Stops led told told moment course done chains.Memory
+stops_first led told moment course done none is = rw is (inl (course, refl, Led-none led told moment none))
 
 -- ---- counts
 
