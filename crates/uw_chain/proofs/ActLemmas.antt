@@ -1,5 +1,5 @@
 -- What the actions of rules come to.
-use Rattle.std.proofs.Common.{◌≡◌, ◌↔◌, ◌<◌, ◌≤◌, refl, sym, ap, ◌∙◌, ℕ, length, Bool, true, false, List, [], ◌∷◌, ◌++◌, Option, None, Some, Result, Ok, Err, inl, IsTrue, nat_le}
+use Rattle.std.proofs.Common.{◌≡◌, ◌↔◌, ◌≤◌, refl, sym, ◌∙◌, ℕ, length, Bool, true, false, List, [], ◌∷◌, ◌++◌, Option, None, Some, Ok, Err, inl, IsTrue, nat_le}
 use Rattle.std.specs.Prelude.{codes, ◌==◌}
 use Rattle.std.specs.List.{before_first, after_first, list_any}
 use Rattle.std.proofs.lemmas.Bool.{false≢true, leb-true, le-leb}
@@ -15,7 +15,7 @@ use Rattle.uw_chain.specs.declared.outcome.Outcome.{Outcome}
 use Rattle.uw_chain.specs.declared.outcome.Outcome.TheVariants as outcomes
 use Rattle.uw_chain.specs.declared.outcome.RouteEnd.{RouteEnd}
 use Rattle.uw_chain.specs.declared.request.Request.{Request}
-use Rattle.uw_chain.specs.Actions.{rewritten, with_filled, with_text, with_variable}
+use Rattle.uw_chain.specs.Actions.{rewritten, with_filled, with_text}
 use Rattle.uw_chain.specs.Courses.{Course, asking, ended}
 use Rattle.uw_chain.specs.Endings.{end_by_redirect, end_by_value, end_overlong, end_with, end_with_page, with_header}
 use Rattle.uw_chain.specs.RoutingSteps.{AsksOnce, RunsTo}

@@ -39,7 +39,7 @@ use Rattle.uw_chain.proofs.CourseLemmas.{Led-none, RunsTo-ended, RunsTo-fault, R
 -- ---- what holds of rules one by one
 
 -- the rule at a number is the written one there
-pub rule_at : (names : List (List ℕ)) (labels : List ℕ → Option ℕ) (rules : List Rule) (written : List WrittenRule) (at : ℕ) (one : Rule)
+rule_at : (names : List (List ℕ)) (labels : List ℕ → Option ℕ) (rules : List Rule) (written : List WrittenRule) (at : ℕ) (one : Rule)
     → AreRulesOf names labels rules written → at < length rules → one ≡ get_or rules at one
     → (said : WrittenRule) × IsRuleOf names labels one said × (drop at written ≡ said ∷ drop (at + 1) written)
 rule_at names labels [] [] at one are below is = absurd (omega arith)
@@ -52,7 +52,7 @@ rule_at names labels (first ∷ rules) (said ∷ written) (suc at) one are below
     (later.0, later.1, rw further later.2)
 
 -- there are as many written rules
-pub as_many : (names : List (List ℕ)) (labels : List ℕ → Option ℕ) (rules : List Rule) (written : List WrittenRule) → AreRulesOf names labels rules written
+as_many : (names : List (List ℕ)) (labels : List ℕ → Option ℕ) (rules : List Rule) (written : List WrittenRule) → AreRulesOf names labels rules written
     → length written ≡ length rules
 as_many names labels [] [] are = refl
 as_many names labels [] (said ∷ written) are = absurd are
@@ -101,7 +101,7 @@ label_goes_on naming moment request one (rule test phrase) is of =
     absurd (subst (λ (r : Rule). IsRuleOf naming.names naming.labels r (rule test phrase)) is of)
 
 -- a rule that acts is written as a test and an action
-pub acting_rule : (naming : Naming) (one : Rule) (test : Test) (action : Action) (P : WrittenRule → Type 0) → one ≡ compiled.Act test action
+acting_rule : (naming : Naming) (one : Rule) (test : Test) (action : Action) (P : WrittenRule → Type 0) → one ≡ compiled.Act test action
     → ((tested : WrittenTest) (phrase : Phrase) → IsTestOf naming.names test tested → IsActionOf naming.names naming.labels action phrase → P (rule tested phrase))
     → (said : WrittenRule) → IsRuleOf naming.names naming.labels one said → P said
 acting_rule naming one test action P is then_so unparted of = absurd (subst (λ (r : Rule). IsRuleOf naming.names naming.labels r unparted) is of)
@@ -111,21 +111,21 @@ acting_rule naming one test action P is then_so (rule tested phrase) of =
     then_so tested phrase parts.0 parts.1
 
 -- the course of an action as it is written is that of the compiled one
-pub action_course : (naming : Naming) (moment : ℕ) (captures : List (List ℕ)) (request : Request) (action : Action) (known : Option (ActionName × ArgumentShape))
+action_course : (naming : Naming) (moment : ℕ) (captures : List (List ℕ)) (request : Request) (action : Action) (known : Option (ActionName × ArgumentShape))
     (argument : Option (List ℕ)) → IsSomeAnd known (λ row. action ≡ action_meant naming.names naming.labels row.0 argument)
     → course_of_phrase naming moment captures request known argument ≡ course_of_action moment captures request action
 action_course naming moment captures request action None argument of = absurd of
 action_course naming moment captures request action (Some known) argument of = ap (λ (one : Action). course_of_action moment captures request one) (sym of)
 
 -- its test was followed to its end
-abbrev pub Tests : (List Asking → ℕ → Type 0) → Option (List ℕ) → Option (List ℕ) → ℕ → Request → Test → List Asked → List Asked → Result Verdict ChainEnd → Type 0
-Tests led before now moment request test list after result =
+abbrev TestRuns : (List Asking → ℕ → Type 0) → Option (List ℕ) → Option (List ℕ) → ℕ → Request → Test → List Asked → List Asked → Result Verdict ChainEnd → Type 0
+TestRuns led before now moment request test list after result =
     (names : List (List ℕ)) (tested : WrittenTest) → IsTestOf names test tested
     → RunsTo led before now moment (course_of_test names request.vars moment tested) list after result
 
 -- its test was not followed to its end
 pub rule_fault : (led : List Asking → ℕ → Type 0) (before now : Option (List ℕ)) (moment : ℕ) (naming : Naming) (request : Request) (one : Rule) (test : Test)
-    (action : Action) (list after : List Asked) (end : ChainEnd) → one ≡ compiled.Act test action → Tests led before now moment request test list after (Err end)
+    (action : Action) (list after : List Asked) (end : ChainEnd) → one ≡ compiled.Act test action → TestRuns led before now moment request test list after (Err end)
     → (said : WrittenRule) → IsRuleOf naming.names naming.labels one said
     → RunsTo led before now moment (course_of_rule naming moment request said) list after (Err end)
 unfolding course_of_rule
@@ -137,7 +137,7 @@ rule_fault led before now moment naming request one test action list after end i
 
 -- no memory behind its test
 pub rule_memory : (led : List Asking → ℕ → Type 0) (before now : Option (List ℕ)) (moment : ℕ) (naming : Naming) (request : Request) (one : Rule) (test : Test)
-    (action : Action) (list after : List Asked) (verdict : Verdict) → one ≡ compiled.Act test action → Tests led before now moment request test list after (Ok verdict)
+    (action : Action) (list after : List Asked) (verdict : Verdict) → one ≡ compiled.Act test action → TestRuns led before now moment request test list after (Ok verdict)
     → (said : WrittenRule) → IsRuleOf naming.names naming.labels one said
     → RunsTo led before now moment (course_of_rule naming moment request said) list after (Err chains.Memory)
 unfolding course_of_rule
@@ -150,7 +150,7 @@ rule_memory led before now moment naming request one test action list after verd
 -- its test decides what comes of it
 pub rule_decided : (led : List Asking → ℕ → Type 0) (before now : Option (List ℕ)) (moment : ℕ) (naming : Naming) (request : Request) (one : Rule) (test : Test)
     (action : Action) (list after : List Asked) (verdict : Verdict) (outcome : Outcome) → one ≡ compiled.Act test action
-    → Tests led before now moment request test list after (Ok verdict)
+    → TestRuns led before now moment request test list after (Ok verdict)
     → ((phrase : Phrase) → course_of_verdict naming moment request phrase verdict ≡ ended outcome)
     → (said : WrittenRule) → IsRuleOf naming.names naming.labels one said
     → RunsTo led before now moment (course_of_rule naming moment request said) list after (Ok outcome)
@@ -166,7 +166,7 @@ pub rule_acts : (led first_led late_led : List Asking → ℕ → Type 0) (befor
     (one : Rule) (test : Test) (action : Action) (list between after : List Asked) (captures : List (List ℕ)) (result : Result Outcome ChainEnd)
     → ((early late : List Asking) (first more : ℕ) → first_led early first → late_led late more → led (early ++ late) (first + more))
     → one ≡ compiled.Act test action
-    → Tests first_led before middle moment request test list between (Ok (verdicts.Met captures))
+    → TestRuns first_led before middle moment request test list between (Ok (verdicts.Met captures))
     → RunsTo late_led middle now moment (course_of_action moment captures request action) between after result
     → (said : WrittenRule) → IsRuleOf naming.names naming.labels one said
     → RunsTo led before now moment (course_of_rule naming moment request said) list after result
@@ -183,7 +183,7 @@ rule_acts led first_led late_led before middle now moment naming request one tes
 -- ---- rules in a row
 
 -- no number is below the first one
-pub none_below : (here : ℕ) → nat_lt here 0 ≡ false
+none_below : (here : ℕ) → nat_lt here 0 ≡ false
 none_below here = le-ltb here 0 (omega arith)
 
 -- a jump passes over a rule before its number, or comes to it
@@ -205,7 +205,7 @@ jumped_first naming moment here until first rules request false later e =
     rw (e, same, none, none_below here) refl
 
 -- a jump passes over the rules before its number
-pub jumped : (naming : Naming) (moment here until : ℕ) (rules : List WrittenRule) (request : Request)
+jumped : (naming : Naming) (moment here until : ℕ) (rules : List WrittenRule) (request : Request)
     → course_of_rules naming moment here until rules request ≡ course_of_rules naming moment (max here until) 0 (drop (until - here) rules) request
 jumped naming moment here until [] request = rw (drop-nil {A = WrittenRule} (until - here)) refl
 jumped naming moment here until (first ∷ rules) request =
@@ -218,7 +218,7 @@ drop_twice (suc early) late [] = rw (drop-nil {A = WrittenRule} late, drop-nil {
 drop_twice (suc early) late (first ∷ rules) = let same : suc early + late ≡ suc (early + late) = omega arith in rw same (drop_twice early late rules)
 
 -- a rule, and then those behind it
-pub rule_first : (naming : Naming) (moment at : ℕ) (said : WrittenRule) (written : List WrittenRule) (request : Request)
+rule_first : (naming : Naming) (moment at : ℕ) (said : WrittenRule) (written : List WrittenRule) (request : Request)
     → drop at written ≡ said ∷ drop (at + 1) written
     → and_then (course_of_rule naming moment request said)
     (after_rule (λ number changed. course_of_rules naming moment (at + 1) number (drop (at + 1) written) changed))
@@ -226,7 +226,7 @@ pub rule_first : (naming : Naming) (moment at : ℕ) (said : WrittenRule) (writt
 rule_first naming moment at said written request e = rw (e, none_below at) refl
 
 -- behind the last rule
-pub rules_over : (naming : Naming) (moment at : ℕ) (written : List WrittenRule) (request : Request) → length written ≤ at
+rules_over : (naming : Naming) (moment at : ℕ) (written : List WrittenRule) (request : Request) → length written ≤ at
     → course_of_rules naming moment at 0 (drop at written) request ≡ ended (end_of_table request)
 rules_over naming moment at written request over = rw (drop_all at written over) refl
 
@@ -242,7 +242,7 @@ Passes {Dsk} leads start here before now moment rules first request at list asks
     → RunsTo (leads start later) before told moment (course_of_rules naming moment 0 0 written first) list after result
 
 -- what a rule did
-abbrev pub RuleRuns : (List Asking → ℕ → Type 0) → Option (List ℕ) → Option (List ℕ) → ℕ → Rule → Request → List Asked → List Asked → Result Outcome ChainEnd → Type 0
+abbrev RuleRuns : (List Asking → ℕ → Type 0) → Option (List ℕ) → Option (List ℕ) → ℕ → Rule → Request → List Asked → List Asked → Result Outcome ChainEnd → Type 0
 RuleRuns led before now moment one request list after result =
     (naming : Naming) (said : WrittenRule) → IsRuleOf naming.names naming.labels one said
     → RunsTo led before now moment (course_of_rule naming moment request said) list after result

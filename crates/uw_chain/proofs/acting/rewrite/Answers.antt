@@ -1,5 +1,4 @@
 use Rattle.std.proofs.Common.{◌≡◌, sym, ap, ◌∙◌, List, ℕ, Some}
-use Rattle.std.specs.Prelude.{is_some}
 use Rattle.uw_chain.specs.Tests.{filled_within}
 use Rattle.uw_chain.proofs.ActLemmas.{rewritten_plain, rewritten_query}
 use Rattle.uw_chain.proofs.acting.rewrite.Goals as goal

@@ -66,5 +66,5 @@ returns-in_ok-end_overlong-in-Overlong-clause-runs g c = λ naming said of.
     let now = g.L.Life.allowances c.judge.new.life in
     let tests = rw c.in-Overlong.is at c.in_ok-captures.ensures.runs in
     rule_decided led before now c.args.moment naming c.args.request c.args.rule.now c.in-Act.test c.in-Act.action c.args.asks.now c.judge.new.asks
-    verdicts.Overlong (outcomes.Ends c.in_ok-end_overlong-in-Overlong.field-0) c.in-Act.is tests 
+    verdicts.Overlong (outcomes.Ends c.in_ok-end_overlong-in-Overlong.field-0) c.in-Act.is tests
     (λ phrase. ap (λ (ending : RouteEnd). ended (outcomes.Ends ending)) (sym c.in_ok-end_overlong-in-Overlong.ensures)) said of

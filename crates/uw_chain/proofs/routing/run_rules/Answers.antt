@@ -1,4 +1,4 @@
-use Rattle.std.proofs.Common.{◌≡◌, ◌<◌, ◌∙◌, ◌+◌, refl, true, length, arith}
+use Rattle.std.proofs.Common.{◌<◌, ◌∙◌, ◌+◌, refl, length, arith}
 use Rattle.std.proofs.lemmas.Result.{err_from_is_err_and}
 use Rattle.uw_chain.specs.declared.outcome.Outcome.TheVariants as outcomes
 use Rattle.uw_chain.proofs.RouteLemmas.{asks_at, jump_goes_on, none_died, passes_ends, passes_fault, passes_memory, passes_over, passes_rule, slot_at, slot_set, slots_length}
