@@ -1,4 +1,6 @@
+pub mod ActLemmas
 pub mod CourseLemmas
 pub mod JudgeLemmas
+pub mod RouteLemmas
 pub mod SearchLemmas
 pub mod WithinLemmas
