@@ -13,7 +13,8 @@ use Rattle.uw_model.specs.Asks.{Asking, answered, Leads, Led, desk_asks}
 use Rattle.uw_chain.specs.declared.faults.ChainEnd.{ChainEnd}
 use Rattle.uw_chain.specs.declared.faults.ChainEnd.TheVariants as chains
 use Rattle.uw_chain.specs.Courses.{Course, ended, asking, and_then, Unfolds}
-use Rattle.uw_chain.specs.Runs.{AsksOnce, RunsTo, Stops}
+use Rattle.uw_chain.specs.Runs.{AsksOnce, Stops}
+use Rattle.uw_chain.specs.RoutingSteps.{RunsTo}
 
 -- ---- what a course reaches
 

@@ -31,7 +31,8 @@ use Rattle.uw_chain.specs.Courses.{Course, and_then, ended}
 use Rattle.uw_chain.specs.Endings.{end_of_table}
 use Rattle.uw_chain.specs.KeptSearches.{FitSlots, FitsRule}
 use Rattle.uw_chain.specs.Routing.{Naming, after_rule, course_of_phrase, course_of_rule, course_of_rules, course_of_verdict}
-use Rattle.uw_chain.specs.Runs.{RunsTo, Stops}
+use Rattle.uw_chain.specs.Runs.{Stops}
+use Rattle.uw_chain.specs.RoutingSteps.{RunsTo}
 use Rattle.uw_chain.specs.Tests.{course_of_test}
 use Rattle.uw_chain.proofs.CourseLemmas.{Led-none, RunsTo-ended, RunsTo-fault, RunsTo-memory, RunsTo-same, RunsTo-then, RunsTo-then_ended, RunsTo-then_memory}
 

@@ -21,12 +21,20 @@ use Rattle.uw_chain.specs.declared.judging.Comparison.TheVariants as comparisons
 use Rattle.uw_chain.specs.declared.acting.Want.{Want}
 use Rattle.uw_rules.specs.declared.compiled.Action.{Action}
 use Rattle.uw_rules.specs.declared.compiled.Action.TheVariants as does
+use Rattle.uw_model.specs.Asks.{Asking}
+use Rattle.uw_model.specs.declared.asks.Asked.{Asked}
 use Rattle.uw_chain.specs.Courses.{Course, asking, ended}
+use Rattle.uw_chain.specs.Runs.{Follows, Stops}
 use Rattle.uw_chain.specs.Endings.{end_overlong}
 use Rattle.uw_chain.specs.Tests.{about_text, asking_cache, comparing, filled_within, has_back, has_front, has_within, verdict_of}
 use Rattle.uw_chain.specs.Actions.{cache_ask, value_outcome, with_answer}
 
 -- ---- courses
+
+-- a course was followed to its end by asks that were put at the end of a list, or not to its end
+abbrev pub RunsTo : {X : Type 0} → (List Asking → ℕ → Type 0) → Option (List ℕ) → Option (List ℕ) → ℕ → Course X → List Asked → List Asked → Result X ChainEnd → Type 0
+RunsTo led before now moment course list after (Ok result) = (made : List Asked) × (after ≡ list ++ made) × Follows led before now moment course made result
+RunsTo led before now moment course list after (Err end) = (made : List Asked) × (after ≡ list ++ made) × Stops led before now moment course made end
 
 -- the end of a chain that a desk's fault is
 abbrev pub end_of_fault : DeskFault → ChainEnd

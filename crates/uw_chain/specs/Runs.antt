@@ -35,11 +35,6 @@ Stops {X} led before now moment course asked chains.Memory =
     ((rest : Course X) × Unfolds course asked rest × Led led before now moment asked [])
     ⊎ BreaksOff led before now moment course asked (λ ask. record { moment = moment; ask = ask; end = no_memory })
 
--- a course was followed to its end by asks that were put at the end of a list, or not to its end
-abbrev pub RunsTo : {X : Type 0} → (List Asking → ℕ → Type 0) → Option (List ℕ) → Option (List ℕ) → ℕ → Course X → List Asked → List Asked → Result X ChainEnd → Type 0
-RunsTo led before now moment course list after (Ok result) = (made : List Asked) × (after ≡ list ++ made) × Follows led before now moment course made result
-RunsTo led before now moment course list after (Err end) = (made : List Asked) × (after ≡ list ++ made) × Stops led before now moment course made end
-
 -- an ask was answered, and stands with its answer at the end of a list; or why it was not
 abbrev pub AsksOnce : {T : Type 0} → (List Asking → ℕ → Type 0) → Option (List ℕ) → Option (List ℕ) → ℕ → Ask → List Asked → List Asked → Result T ChainEnd → Type 0
 AsksOnce led before now moment ask list after (Ok done) =
