@@ -3,7 +3,7 @@ ghost use Rattle.std.specs.Prelude.{◌≡◌, ◌+◌, ◌-◌, ◌<◌, ◌≤
 ghost use Rattle.uw_words.specs.Plans.{region, through, with_put, Names, HasDistinctPlaces};
 
 use crate::ram::Ram;
-use crate::sieve::{SIEVE_WORDS, admit, passes};
+use crate::sieve::{SHUT, SIEVE_WORDS, admit, passes, shut};
 use crate::slots::{empty, rebuild, seek};
 use std::alloc::Global;
 use std::marker::Model;
@@ -27,7 +27,7 @@ pub struct Overlay {
     slots: Vec<u64>,
     most_slots: usize,
     // It keeps out most places that are not planned, in one step.
-    sieve: [u64; SIEVE_WORDS],
+    sieve: [u32; SIEVE_WORDS],
 }
 
 impl Model for Overlay {
@@ -59,7 +59,7 @@ impl Overlay {
             writes,
             slots,
             most_slots,
-            sieve: [0; SIEVE_WORDS],
+            sieve: [SHUT; SIEVE_WORDS],
         })
     }
 
@@ -103,9 +103,9 @@ impl Overlay {
     pub fn clear(&mut self)
         ensures { self.new ≡ record self.old { writes = [] } }
     {
+        shut(&mut self.sieve, &self.writes);
         self.writes.clear();
         empty(&mut self.slots, FEWEST_SLOTS);
-        self.sieve = [0; SIEVE_WORDS];
     }
 
     /// How many more places it can name.

@@ -23,7 +23,16 @@ const FIRST: u64 = 4096;
 
 const PLACES: u64 = 65_536;
 
-// A number without a common factor with the number of places, by which each place is away from the one before it.
+// The first place that is read and never planned.
+const READ: u64 = FIRST + PLACES;
+
+/// So many places that the processor's first cache does not hold their words.
+pub const MANY: u64 = PLACES;
+
+/// So few that it does.
+pub const FEW: u64 = 2048;
+
+// A number without a common factor with the numbers of places, by which each place is away from the one before it.
 const STRIDE: u64 = 40_503;
 
 /// Words with their redo record, and a plan for them.
@@ -52,11 +61,19 @@ fn place(number: u64) -> u64
     FIRST + number.wrapping_mul(STRIDE) % PLACES
 }
 
+// The place of this number among so many that are never planned.
+fn read_place<const SPAN: u64>(number: u64) -> u64
+    requires { (0 < SPAN) × (SPAN ≤ 65536) }
+    ensures { (69632 ≤ result) × (result < 135168) }
+{
+    READ + number.wrapping_mul(STRIDE) % SPAN
+}
+
 impl Region {
     /// Words that are zero, with a plan that has room for so many places.
     pub fn new(alloc: Global, room: u64) -> Result<Region, Memory> {
         Ok(Region {
-            ram: Ram::new(alloc, FIRST + PLACES)?,
+            ram: Ram::new(alloc, READ + MANY)?,
             plan: Overlay::new(alloc, room)?,
         })
     }
@@ -77,23 +94,43 @@ impl Region {
     pub fn follow(&self, number: u64, links: u64) -> u64 {
         let mut next = number;
         for _ in 0..links {
-            next = self
-                .ram
-                .load(place(next))
-                .wrapping_add(next)
-                .wrapping_add(1);
+            let word = self.ram.load(read_place::<MANY>(next));
+            next = word.wrapping_add(next).wrapping_add(1);
         }
         next
     }
 
-    /// The same as they are planned.
-    pub fn follow_planned(&self, number: u64, links: u64) -> u64 {
+    /// The same through the plan, which names none of the places.
+    pub fn follow_through(&self, number: u64, links: u64) -> u64 {
         let mut next = number;
         for _ in 0..links {
-            let word = self.plan.load(&self.ram, place(next));
+            let word = self.plan.load(&self.ram, read_place::<MANY>(next));
             next = word.wrapping_add(next).wrapping_add(1);
         }
         next
+    }
+
+    /// The sum of the words at so many places of SPAN, from this number on.
+    pub fn sum<const SPAN: u64>(&self, number: u64, count: u64) -> u64
+        requires { (0 < SPAN) × (SPAN ≤ 65536) }
+    {
+        let mut sum: u64 = 0;
+        for k in 0..count {
+            sum = sum.wrapping_add(self.ram.load(read_place::<SPAN>(number.wrapping_add(k))));
+        }
+        sum
+    }
+
+    /// The same through the plan, which names none of the places.
+    pub fn sum_through<const SPAN: u64>(&self, number: u64, count: u64) -> u64
+        requires { (0 < SPAN) × (SPAN ≤ 65536) }
+    {
+        let mut sum: u64 = 0;
+        for k in 0..count {
+            let place = read_place::<SPAN>(number.wrapping_add(k));
+            sum = sum.wrapping_add(self.plan.load(&self.ram, place));
+        }
+        sum
     }
 
     /// Plans nothing any more.
