@@ -68,9 +68,19 @@ impl Overlay {
         requires { at < length ram.now }
         ensures { result ≡ through self.now.writes (region ram.now) at }
     {
-        if !passes(&self.sieve, at) {
-            return ram.load(at);
+        if passes(&self.sieve, at) {
+            return self.load_by_table(ram, at);
         }
+        ram.load(at)
+    }
+
+    // The same without the sieve. It stands apart, so that a caller's code has the short way alone in it.
+    #[cold]
+    #[inline(never)]
+    fn load_by_table(&self, ram: &Ram, at: u64) -> u64
+        requires { at < length ram.now }
+        ensures { result ≡ through self.now.writes (region ram.now) at }
+    {
         let slot = seek(&self.slots, &self.writes, at);
         let number = self.slots[slot] as usize;
         if number == 0 {

@@ -4,7 +4,7 @@
 
 mod region;
 
-use crate::region::{FEW, MANY, Region};
+use crate::region::{FEW, MANY, Region, STRIDE};
 use std::alloc::Global;
 use std::process::ExitCode;
 use std::time::Instant;
@@ -82,7 +82,7 @@ fn turn(
     number: u64,
 ) -> Result<u64, Memory> {
     let first = number.wrapping_mul(words);
-    let start = number.wrapping_mul(READS);
+    let start = number.wrapping_mul(READS).wrapping_mul(STRIDE);
     match work {
         Work::Links => Ok(region.follow(start, READS)),
         Work::LinksThrough => Ok(region.follow_through(start, READS)),

@@ -32,8 +32,8 @@ pub const MANY: u64 = PLACES;
 /// So few that it does.
 pub const FEW: u64 = 2048;
 
-// A number without a common factor with the numbers of places, by which each place is away from the one before it.
-const STRIDE: u64 = 40_503;
+/// A number without a common factor with the numbers of places, by which each place is away from the one before it.
+pub const STRIDE: u64 = 40_503;
 
 /// Words with their redo record, and a plan for them.
 #[derive(Drop)]
@@ -61,12 +61,12 @@ fn place(number: u64) -> u64
     FIRST + number.wrapping_mul(STRIDE) % PLACES
 }
 
-// The place of this number among so many that are never planned.
-fn read_place<const SPAN: u64>(number: u64) -> u64
+// The place so far on, round and round, among so many that are never planned.
+fn read_place<const SPAN: u64>(on: u64) -> u64
     requires { (0 < SPAN) × (SPAN ≤ 65536) }
     ensures { (69632 ≤ result) × (result < 135168) }
 {
-    READ + number.wrapping_mul(STRIDE) % SPAN
+    READ + on % SPAN
 }
 
 impl Region {
@@ -90,45 +90,48 @@ impl Region {
         self.plan.load(&self.ram, place(number))
     }
 
-    /// Goes from place to place, so many: the word of each says how far on the next one is, one more than it says.
-    pub fn follow(&self, number: u64, links: u64) -> u64 {
-        let mut next = number;
+    /// Goes from place to place, so many: the word of each says how much farther than a stride on the next one is.
+    pub fn follow(&self, start: u64, links: u64) -> u64 {
+        let mut on = start;
         for _ in 0..links {
-            let word = self.ram.load(read_place::<MANY>(next));
-            next = word.wrapping_add(next).wrapping_add(1);
+            let word = self.ram.load(read_place::<MANY>(on));
+            on = on.wrapping_add(STRIDE).wrapping_add(word);
         }
-        next
+        on
     }
 
     /// The same through the plan, which names none of the places.
-    pub fn follow_through(&self, number: u64, links: u64) -> u64 {
-        let mut next = number;
+    pub fn follow_through(&self, start: u64, links: u64) -> u64 {
+        let mut on = start;
         for _ in 0..links {
-            let word = self.plan.load(&self.ram, read_place::<MANY>(next));
-            next = word.wrapping_add(next).wrapping_add(1);
+            let word = self.plan.load(&self.ram, read_place::<MANY>(on));
+            on = on.wrapping_add(STRIDE).wrapping_add(word);
         }
-        next
+        on
     }
 
-    /// The sum of the words at so many places of SPAN, from this number on.
-    pub fn sum<const SPAN: u64>(&self, number: u64, count: u64) -> u64
+    /// The sum of the words at so many of the places, each a stride on from the one before it.
+    pub fn sum<const SPAN: u64>(&self, start: u64, count: u64) -> u64
         requires { (0 < SPAN) × (SPAN ≤ 65536) }
     {
+        let mut on = start;
         let mut sum: u64 = 0;
-        for k in 0..count {
-            sum = sum.wrapping_add(self.ram.load(read_place::<SPAN>(number.wrapping_add(k))));
+        for _ in 0..count {
+            sum = sum.wrapping_add(self.ram.load(read_place::<SPAN>(on)));
+            on = on.wrapping_add(STRIDE);
         }
         sum
     }
 
     /// The same through the plan, which names none of the places.
-    pub fn sum_through<const SPAN: u64>(&self, number: u64, count: u64) -> u64
+    pub fn sum_through<const SPAN: u64>(&self, start: u64, count: u64) -> u64
         requires { (0 < SPAN) × (SPAN ≤ 65536) }
     {
+        let mut on = start;
         let mut sum: u64 = 0;
-        for k in 0..count {
-            let place = read_place::<SPAN>(number.wrapping_add(k));
-            sum = sum.wrapping_add(self.plan.load(&self.ram, place));
+        for _ in 0..count {
+            sum = sum.wrapping_add(self.plan.load(&self.ram, read_place::<SPAN>(on)));
+            on = on.wrapping_add(STRIDE);
         }
         sum
     }
