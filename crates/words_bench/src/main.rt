@@ -86,10 +86,10 @@ fn turn(
     match work {
         Work::Links => Ok(region.follow(start, READS)),
         Work::LinksThrough => Ok(region.follow_through(start, READS)),
-        Work::Many => Ok(region.sum::<MANY>(start, READS)),
-        Work::ManyThrough => Ok(region.sum_through::<MANY>(start, READS)),
-        Work::Few => Ok(region.sum::<FEW>(start, READS)),
-        Work::FewThrough => Ok(region.sum_through::<FEW>(start, READS)),
+        Work::Many => Ok(region.sum::<MANY>(start, READS / 4)),
+        Work::ManyThrough => Ok(region.sum_through::<MANY>(start, READS / 4)),
+        Work::Few => Ok(region.sum::<FEW>(start, READS / 4)),
+        Work::FewThrough => Ok(region.sum_through::<FEW>(start, READS / 4)),
         Work::Clear => {
             region.clear();
             put_words(region, words, first);
