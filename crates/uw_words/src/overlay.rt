@@ -1,6 +1,6 @@
 // Words that are planned for places of a region.
-ghost use Rattle.std.specs.Prelude.{◌≡◌, ◌+◌, ◌-◌, ◌<◌, ◌≤◌, ◌⊎◌, [], length, slice_get, IfOk, Some};
-ghost use Rattle.uw_words.specs.Plans.{region, through, with_put, Names, HasDistinctPlaces};
+ghost use Rattle.std.specs.Prelude.{◌≡◌, ◌+◌, ◌-◌, ◌<◌, ◌≤◌, ◌⊎◌, [], length, slice_get, unwrap_or, IfOk, Some};
+ghost use Rattle.uw_words.specs.Plans.{planned, region, through, with_put, Names, HasDistinctPlaces};
 
 use crate::ram::Ram;
 use crate::sieve::{SHUT, SIEVE_WORDS, admit, passes, shut};
@@ -68,23 +68,23 @@ impl Overlay {
         requires { at < length ram.now }
         ensures { result ≡ through self.now.writes (region ram.now) at }
     {
+        let own = ram.load(at);
         if passes(&self.sieve, at) {
-            return self.load_by_table(ram, at);
+            return self.planned_or(at, own);
         }
-        ram.load(at)
+        own
     }
 
-    // The same without the sieve. It stands apart, so that a caller's code has the short way alone in it.
+    // The word planned for a place, or else this one. It stands apart, so that a caller's code has the short way alone.
     #[cold]
     #[inline(never)]
-    fn load_by_table(&self, ram: &Ram, at: u64) -> u64
-        requires { at < length ram.now }
-        ensures { result ≡ through self.now.writes (region ram.now) at }
+    fn planned_or(&self, at: u64, own: u64) -> u64
+        ensures { result ≡ unwrap_or (planned self.now.writes at) own }
     {
         let slot = seek(&self.slots, &self.writes, at);
         let number = self.slots[slot] as usize;
         if number == 0 {
-            return ram.load(at);
+            return own;
         }
         self.writes[number - 1].1
     }

@@ -1,10 +1,9 @@
 use Rattle.std.proofs.Common.{◌≡◌, ◌-◌, ℕ, ◌∙◌, ap, sym, get_or}
 use Rattle.std.proofs.lemmas.List.{get_or_read}
-use Rattle.uw_words.specs.Plans.{region}
 use Rattle.uw_words.specs.SlotSteps.{Ends}
 use Rattle.uw_words.proofs.Sound.{ends_in, is_named, read_free, read_named}
-use Rattle.uw_words.proofs.overlay.Overlay.load_by_table.Goals as goal
-use Rattle.uw_words.proofs.overlay.Overlay.load_by_table.Goals.{After-index}
+use Rattle.uw_words.proofs.overlay.Overlay.planned_or.Goals as goal
+use Rattle.uw_words.proofs.overlay.Overlay.planned_or.Goals.{After-index}
 
 ends : (c : After-index) → Ends c.self.inside.writes.items c.self.inside.slots.items c.args.at c.seek-slot.result
 ends c = ends_in c.self.inside.writes.items _ c.self.inside.slots.items _ c.args.at c.seek-slot.result c.deref-2.ensures.value c.deref.ensures.value c.seek-slot.ensures
@@ -17,7 +16,7 @@ returns-then-number-eq0 c =
     let at = (goal.at.returns-then-number-eq0 c).After-index in
     let inside = c.self.inside in
     rw (← c.self.view_is)
-    (c.load.ensures ∙ sym (read_free inside.writes.items inside.slots.items c.args.at c.seek-slot.result c.index.result.now (ends at) (number at) (region c.args.ram.now) c.if-number-eq0.true))
+    (sym (read_free inside.writes.items inside.slots.items c.args.at c.seek-slot.result c.index.result.now (ends at) (number at) (λ place. c.args.own) c.if-number-eq0.true))
 
 pub returns : goal.returns
 returns c =
@@ -28,4 +27,4 @@ returns c =
     let read = get_or_read plan (c.index.result.now - 1) c.index-2.result.now named.0 c.index-2.ensures (0, 0) in
     rw (← c.self.view_is)
     (ap (λ (p : ℕ × ℕ). p.1) read
-    ∙ sym (read_named plan inside.slots.items c.args.at c.seek-slot.result c.index.result.now (ends at) (number at) (region c.args.ram.now) c.self.invariant.0.distinct c.if-number-eq0.false))
+    ∙ sym (read_named plan inside.slots.items c.args.at c.seek-slot.result c.index.result.now (ends at) (number at) (λ place. c.args.own) c.self.invariant.0.distinct c.if-number-eq0.false))
