@@ -20,14 +20,14 @@ const MOST_PLACES: u64 = 1 << 58;
 /// they can name. After `new` no call takes memory, and none but `new` costs more where the room is larger.
 #[derive(Drop)]
 pub struct Overlay {
-    // It keeps out most places that are not planned, in one step. It stands first, where a read's code is shortest.
-    sieve: [u32; SIEVE_WORDS],
     room: u64,
     writes: Vec<(u64, u64)>,
     // By the slots a place is found among the writes. There are more than twice as many as writes: they grow with these,
     // so that a few writes need few slots, whatever the room is.
     slots: Vec<u64>,
     most_slots: usize,
+    // It keeps out most places that are not planned, in one step.
+    sieve: [u32; SIEVE_WORDS],
 }
 
 impl Model for Overlay {
@@ -55,11 +55,11 @@ impl Overlay {
         let mut slots = Vec::with_capacity(alloc, most_slots)?;
         empty(&mut slots, FEWEST_SLOTS);
         Ok(Overlay {
-            sieve: [SHUT; SIEVE_WORDS],
             room,
             writes,
             slots,
             most_slots,
+            sieve: [SHUT; SIEVE_WORDS],
         })
     }
 
