@@ -34,14 +34,14 @@ pub record IsTable (plan : List (ℕ × ℕ)) (slots : List ℕ) : Type 0 where
 -- A sieve tells of most places in one step that no planned write has them: 1024 words of 32 bits. Each place has a mark of 32 bits, whose highest ten say which
 -- word the place belongs to. A place passes where its word has none of the bits of its mark, so a word that is all ones lets none through but those of the mark 0.
 
--- the mark of a place
+-- the mark of a place: 32 bits, of which the highest ten name its word of the sieve
 unfoldable pub sieve_mark : ℕ → ℕ
 sieve_mark at = at % 2 ^ 32 * 0x9E3779B1 % 2 ^ 32
 
--- the sieve lets a place through
+-- the sieve lets a place through: its word has none of the bits of the place's mark
 abbrev pub Passes : List ℕ → ℕ → Type 0
 Passes sieve at = bit_and (slice_index sieve (sieve_mark at / 2 ^ 22)) (sieve_mark at) ≡ 0
 
--- it lets all planned places through
+-- the sieve lets all planned places through
 abbrev pub PassesAll : List ℕ → List (ℕ × ℕ) → Type 0
 PassesAll sieve plan = (k : ℕ) → k < length plan → Passes sieve (place plan k)

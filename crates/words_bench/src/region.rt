@@ -87,6 +87,9 @@ impl Region {
         self.plan.load(&self.ram, place(number))
     }
 
+    // Each reading is a function of its own in the built program too, so that its code is the same whatever else is
+    // timed.
+
     /// Goes from place to place, so many: the word of each says how much farther than a stride on the next one is.
     #[inline(never)]
     pub fn follow(&self, start: u64, links: u64) -> u64 {
@@ -137,8 +140,8 @@ impl Region {
         sum
     }
 
-    // Four words at a time, since a compiler that reads four plain ones a turn may read one a turn through a plan: so
-    // the reads are compared, and not the loops.
+    // Four words at a time: the compiler would unroll the loop of plain reads, and not the other. So the reads are
+    // compared, and not the loops.
     fn four<const SPAN: u64>(&self, on: u64) -> u64
         requires { (0 < SPAN) × (SPAN ≤ 65536) }
     {

@@ -1,5 +1,4 @@
 use Rattle.std.proofs.Common.{◌≡◌, ℕ, ◌/◌, ◌^◌, ◌==◌, bit_and, get_or, sym, ap, ◌∙◌, subst}
-use Rattle.uw_words.specs.Slots.{sieve_mark}
 use Rattle.uw_words.proofs.sieve.passes.Goals as goal
 
 pub returns : goal.returns
