@@ -3,7 +3,7 @@ ghost use Rattle.std.specs.Prelude.{◌≡◌, ◌+◌, ◌-◌, ◌<◌, ◌≤
 ghost use Rattle.uw_words.specs.Plans.{planned, region, through, with_put, Names, HasDistinctPlaces};
 
 use crate::ram::Ram;
-use crate::sieve::{SHUT, SIEVE_WORDS, admit, passes, shut};
+use crate::sieve::{SHUT, SIEVE_WORDS, admit, passes, shut_out};
 use crate::slots::{empty, rebuild, seek};
 use std::alloc::Global;
 use std::marker::Model;
@@ -113,7 +113,7 @@ impl Overlay {
     pub fn clear(&mut self)
         ensures { self.new ≡ record self.old { writes = [] } }
     {
-        shut(&mut self.sieve, &self.writes);
+        shut_out(&mut self.sieve, &self.writes);
         self.writes.clear();
         empty(&mut self.slots, FEWEST_SLOTS);
     }

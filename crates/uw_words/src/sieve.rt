@@ -48,7 +48,7 @@ pub(crate) fn passes(sieve: &[u32; SIEVE_WORDS], at: u64) -> bool
 
 // Lets the places of planned writes through no more. No promise needs it: it keeps the sieve fine. Its time grows with
 // the writes and not with the sieve.
-pub(crate) fn shut(sieve: &mut [u32; SIEVE_WORDS], plan: &[(u64, u64)]) {
+pub(crate) fn shut_out(sieve: &mut [u32; SIEVE_WORDS], plan: &[(u64, u64)]) {
     for (at, _) in plan {
         sieve[word_of(mark_of(*at))] = SHUT;
     }
