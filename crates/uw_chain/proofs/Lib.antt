@@ -1,4 +1,5 @@
 pub mod CourseLemmas
 pub mod JudgeLemmas
+pub mod LawLemmas
 pub mod SearchLemmas
 pub mod WithinLemmas

@@ -7,6 +7,7 @@ mod endings;
 pub mod faults;
 mod filling;
 mod judging;
+pub mod laws;
 pub mod outcome;
 pub mod request;
 mod routing;
