@@ -63,10 +63,11 @@ impl Request {
     pub fn end_with_page(mut self, alloc: Global, status: &[u8]) -> Result<RouteEnd, Memory>
         ensures { IfOk result (λ ending. ending ≡ end_with_page status.now self) }
     {
-        if !self.sent {
-            self.add_header(Bytes::from_slice(alloc, b"Content-Type: text/plain")?)?;
-            self.body = Bytes::joined(alloc, status, b"\n")?;
+        if self.sent {
+            return self.end_with(alloc, status, false);
         }
+        self.add_header(Bytes::from_slice(alloc, b"Content-Type: text/plain")?)?;
+        self.body = Bytes::joined(alloc, status, b"\n")?;
         self.end_with(alloc, status, false)
     }
 
