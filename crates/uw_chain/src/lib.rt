@@ -20,3 +20,6 @@ pub use request::Request;
 pub use routing::{route, route_with};
 pub use searches::Searches;
 pub use verdict::Verdict;
+
+#[cfg(test)]
+mod tests;
