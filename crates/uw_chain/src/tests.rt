@@ -493,7 +493,7 @@ struct ShortDesk {
 }
 
 impl Desk for ShortDesk {
-    ghost use Rattle.std.specs.Prelude.{Unit, tt, true};
+    ghost use Rattle.std.specs.Prelude.{true};
 
     ghost caches = { λ _. 2 };
 
