@@ -2,6 +2,7 @@ pub mod Courses
 pub mod Endings
 pub mod Tests
 pub mod Actions
+pub mod ActionTexts
 pub mod Routing
 pub mod KeptSearches
 pub mod Runs

@@ -7,6 +7,7 @@ mod endings;
 pub mod faults;
 mod filling;
 mod judging;
+pub mod laws;
 pub mod outcome;
 pub mod request;
 mod routing;
@@ -20,3 +21,6 @@ pub use request::Request;
 pub use routing::{route, route_with};
 pub use searches::Searches;
 pub use verdict::Verdict;
+
+#[cfg(test)]
+mod tests;
