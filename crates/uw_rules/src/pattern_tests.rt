@@ -64,7 +64,7 @@ fn texts_are_patterns_or_not(rt: HostRuntime) -> Result<(), Fail> {
 }
 
 // A pattern weighs at most 2,500.
-const WEIGHED: [(&str, Kind); 29] = [
+const WEIGHED: [(&str, Kind); 28] = [
     // A byte weighs 1, a class 2, and one of hundreds of ranges more.
     ("a{2500}", Kind::Pattern),
     ("a{2501}", Kind::Refused),
@@ -77,9 +77,8 @@ const WEIGHED: [(&str, Kind); 29] = [
     ("é{1250}", Kind::Pattern),
     ("é{1251}", Kind::Refused),
     // So do what is empty, assertions, branches and groups.
-    ("(?:){1250}", Kind::Pattern),
-    ("(?:){1251}", Kind::Refused),
-    ("\\b{1251}", Kind::Refused),
+    ("(?:a\\b){833}", Kind::Pattern),
+    ("(?:a\\b){834}", Kind::Refused),
     ("(?:ab|cd|){208}", Kind::Pattern),
     ("(?:ab|cd|){209}", Kind::Refused),
     ("(a){500}", Kind::Pattern),
@@ -110,12 +109,14 @@ fn heavy_patterns_are_refused(rt: HostRuntime) -> Result<(), Fail> {
 }
 
 // Those that cost most of the light ones, as far as they were found: bench/rules/patterns times them.
-const HEAVIEST: [&str; 10] = [
+const HEAVIEST: [&str; 12] = [
     "[ab]*a[ab]{1244}[^ab]",
     "[ab]*a\\w{497}[^ab]",
     "\\w*[aé]\\w{495}\\W",
     "[ab]*a[ab]{20}a{2440}[^ab]",
     "[ab]*a[ab]{622}(?:[ab]?){311}[^ab]",
+    "[ab]*a\\pL{0,400}\\W",
+    "[ab]*a[a-c]*?[ab]{1,600}[^é]+\\b(?:([ab])|[a-c]{5,10})",
     "[ab]*a([ab]){414}[^ab]",
     "[ab]*a(?:\\B[ab]){622}[^ab]",
     "[ab]*a(?:[ab]{20}){1,59}[^ab]",
