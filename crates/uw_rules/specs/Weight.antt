@@ -15,12 +15,12 @@ repetition_weight least None each = each * max least 1 * 3 + 2
 repetition_weight least (Some most) each = each * most + (most - least) * 2
 
 -- one node, with the weight of each child in its place: 1 for a byte; 2 for an assertion, a branch and what is empty; 4 for a group; 2 for a class, and 1 more
--- for each 256 ranges of characters, since those of Unicode have hundreds
+-- for each 32 ranges of characters, since those of Unicode have hundreds, and states as many
 abbrev pub node_weight : Hir-F ℕ → ℕ
 node_weight Hir-F.Empty = 2
 node_weight (Hir-F.Literal bytes) = length bytes.items
 node_weight (Hir-F.Bytes class) = 2
-node_weight (Hir-F.Chars class) = length class.ranges.items / 256 + 2
+node_weight (Hir-F.Chars class) = length class.ranges.items / 32 + 2
 node_weight (Hir-F.Look look) = 2
 node_weight (Hir-F.Repetition least most greedy sub) = repetition_weight least most sub.value
 node_weight (Hir-F.Capture index sub) = sub.value + 4

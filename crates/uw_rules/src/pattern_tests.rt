@@ -70,10 +70,10 @@ const WEIGHED: [(&str, Kind); 28] = [
     ("a{2501}", Kind::Refused),
     ("[ab]{1250}", Kind::Pattern),
     ("[ab]{1251}", Kind::Refused),
-    ("\\w{500}", Kind::Pattern),
-    ("\\w{501}", Kind::Refused),
-    ("\\pL{625}", Kind::Pattern),
-    ("\\pL{626}", Kind::Refused),
+    ("\\w{92}", Kind::Pattern),
+    ("\\w{93}", Kind::Refused),
+    ("\\pL{108}", Kind::Pattern),
+    ("\\pL{109}", Kind::Refused),
     ("é{1250}", Kind::Pattern),
     ("é{1251}", Kind::Refused),
     // So do what is empty, assertions, branches and groups.
@@ -111,11 +111,11 @@ fn heavy_patterns_are_refused(rt: HostRuntime) -> Result<(), Fail> {
 // Those that cost most of the light ones, as far as they were found: bench/rules/patterns times them.
 const HEAVIEST: [&str; 12] = [
     "[ab]*a[ab]{1244}[^ab]",
-    "[ab]*a\\w{497}[^ab]",
-    "\\w*[aé]\\w{495}\\W",
+    "[ab]*a\\w{92}[^ab]",
+    "\\w*[aé]\\w{88}\\W",
     "[ab]*a[ab]{20}a{2440}[^ab]",
     "[ab]*a[ab]{622}(?:[ab]?){311}[^ab]",
-    "[ab]*a\\pL{0,400}\\W",
+    "[ab]*a\\w{89}[ab]*?[^é]{20}babba[ab]*$",
     "[ab]*a[a-c]*?[ab]{1,600}[^é]+\\b(?:([ab])|[a-c]{5,10})",
     "[ab]*a([ab]){414}[^ab]",
     "[ab]*a(?:\\B[ab]){622}[^ab]",
@@ -125,9 +125,10 @@ const HEAVIEST: [&str; 12] = [
 ];
 
 // Such as stand in configurations.
-const SANE: [&str; 8] = [
+const SANE: [&str; 9] = [
     "\\w{64}",
-    "^[\\w.-]{1,255}$",
+    "^[\\w.-]{1,64}$",
+    "(?-u)^[\\w.-]{1,255}$",
     "^[0-9a-f]{8}(-[0-9a-f]{4}){3}-[0-9a-f]{12}$",
     "^/[a-z0-9_-]{1,64}(/[a-z0-9_-]{1,64}){0,7}$",
     "(?i)^(www\\.)?example\\.(org|com|net)$",

@@ -16,7 +16,7 @@ pub fn weight_of(tree: &Hir) -> usize
         Hir::Empty => 2,
         Hir::Literal(bytes) => bytes.len(),
         Hir::Bytes(_) => 2,
-        Hir::Chars(class) => class.ranges.len() / 256 + 2,
+        Hir::Chars(class) => class.ranges.len() / 32 + 2,
         Hir::Look(_) => 2,
         Hir::Repetition { min, max, sub, .. } => repeated(*min, *max, weight_of(sub)),
         Hir::Capture { sub, .. } => weight_of(sub).saturating_add(4),
