@@ -105,6 +105,24 @@ impl<'r> Slot<'r> {
         if let Some(search) = &mut self.made {
             return search.search(alloc, subject);
         }
+        self.search_first(alloc, pattern, subject)
+    }
+
+    // Makes what searches, and searches. It stands apart, and so does its room on the stack, for which a search that was
+    // made has no use.
+    #[cold]
+    #[inline(never)]
+    fn search_first(
+        &mut self,
+        alloc: Global,
+        pattern: &'r Regex,
+        subject: &[u8],
+    ) -> Result<Verdict, Memory>
+        requires { FitsPattern pattern.now self.old }
+        ensures found { (text : List ℕ) → IsPatternOf pattern.now text
+            → IfOk result (λ verdict. verdict ≡ verdict_of_pattern text subject.now) }
+        ensures fits { FitsPattern pattern.now self.new }
+    {
         let mut search = Search::new(alloc, pattern)?;
         let verdict = search.search(alloc, subject)?;
         self.made = Some(search);
