@@ -1,5 +1,5 @@
 -- A run is changed word by word.
-use Rattle.std.proofs.Common.{◌≡◌, ◌≢◌, ◌⊎◌, ⊎_elim, ℕ, min, max, zero, suc, ◌+◌, ◌-◌, ◌*◌, ◌/◌, ◌%◌, ◌<◌, ◌≤◌, Bool, true, false, ◌==◌, if◌then◌else◌, List, [], ◌∷◌, ◌++◌, length, refl, sym, ap, ◌∙◌, subst, arith}
+use Rattle.std.proofs.Common.{◌≡◌, ◌≢◌, ◌⊎◌, ⊎_elim, ℕ, min, max, suc, ◌+◌, ◌-◌, ◌*◌, ◌/◌, ◌%◌, ◌<◌, ◌≤◌, Bool, true, false, ◌==◌, if◌then◌else◌, List, [], ◌∷◌, ◌++◌, length, refl, sym, ap, ◌∙◌, subst, arith}
 use Rattle.std.specs.Int.{bit_at}
 use Rattle.std.proofs.lemmas.Bool.{cases_eq, cases_lt}
 use Rattle.std.proofs.lemmas.Bool.Decides.{nat_tests}
@@ -7,7 +7,7 @@ use Rattle.uw_words.specs.declared.shape.Shape.{Shape}
 use Rattle.uw_words.specs.Plans.{Plan, Names, with_put, region}
 use Rattle.uw_words.specs.Numbers.{places_from}
 use Rattle.uw_words.specs.Parts.{seen, GrewAt, HasRoom}
-use Rattle.uw_words.proofs.Growth.{grew_none, grew_put, grew_then, read_put, read_other, room_now, room_then}
+use Rattle.uw_words.proofs.Growth.{grew_none, grew_put, grew_then, read_put, read_other, room_now, room_then, places_split}
 use Rattle.uw_bitmap.specs.Bits.{is_marked, is_in_run, ChangesRun, run_places, word_of}
 use Rattle.uw_bitmap.proofs.Blocks.{mark_is}
 
@@ -26,21 +26,6 @@ pub nothing_changed : (value : Bool) (marked : ℕ → Bool) (first : ℕ) → C
 nothing_changed value marked first = λ block. ⊎_elim
     (λ before. sym (ap (λ (b : Bool). if b then value else marked block) (before_run first 0 block before)))
     (λ behind. sym (ap (λ (b : Bool). if b then value else marked block) (behind_run first 0 block (omega arith)))) (cases_lt block first)
-
--- places in a row are some of them, and then the others
-pub places_split : (first early late : ℕ) → places_from first (early + late) ≡ places_from first early ++ places_from (first + early) late
-places_split first zero late =
-    let none : zero + late ≡ late = omega arith in
-    let same : first + zero ≡ first = omega arith in
-    ap (places_from first) none ∙ ap (λ (at : ℕ). places_from at late) (sym same)
-places_split first (suc early) late =
-    let sum : suc early + late ≡ suc (early + late) = omega arith in
-    let next : first + 1 + early ≡ first + suc early = omega arith in
-    ap (places_from first) sum ∙ ap (λ (places : List ℕ). first ∷ places) (places_split (first + 1) early late ∙ ap (λ (at : ℕ). places_from (first + 1) early ++ places_from at late) next)
-
-pub places_count : (first count : ℕ) → length (places_from first count) ≡ count
-places_count first zero = refl
-places_count first (suc count) = ap suc (places_count (first + 1) count)
 
 -- the words up to an index have the run's mark
 pub record IsChangedUpTo (value : Bool) (shape : Shape) (words : List ℕ) (before now : Plan) (first n index : ℕ) : Type 0 where

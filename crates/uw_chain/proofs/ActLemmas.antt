@@ -18,7 +18,8 @@ use Rattle.uw_chain.specs.declared.request.Request.{Request}
 use Rattle.uw_chain.specs.Actions.{rewritten, with_filled, with_text}
 use Rattle.uw_chain.specs.Courses.{Course, asking, ended}
 use Rattle.uw_chain.specs.Endings.{end_by_redirect, end_by_value, end_overlong, end_with, end_with_page, with_header}
-use Rattle.uw_chain.specs.RoutingSteps.{AsksOnce, RunsTo}
+use Rattle.uw_chain.specs.Runs.{AsksOnce}
+use Rattle.uw_chain.specs.RoutingSteps.{RunsTo}
 use Rattle.uw_chain.specs.Tests.{filled_within}
 use Rattle.uw_chain.proofs.CourseLemmas.{Led-one}
 

@@ -12,31 +12,31 @@ use Rattle.uw_model.specs.declared.asks.Ask.TheVariants as asks
 use Rattle.uw_model.specs.Asks.{Asking, answered, Leads, Led, desk_asks}
 use Rattle.uw_chain.specs.declared.faults.ChainEnd.{ChainEnd}
 use Rattle.uw_chain.specs.declared.faults.ChainEnd.TheVariants as chains
-use Rattle.uw_chain.specs.Courses.{Course, ended, asking, and_then, Reaches}
-use Rattle.uw_chain.specs.Runs.{Stops}
-use Rattle.uw_chain.specs.RoutingSteps.{AsksOnce, RunsTo}
+use Rattle.uw_chain.specs.Courses.{Course, ended, asking, and_then, Unfolds}
+use Rattle.uw_chain.specs.Runs.{AsksOnce, Stops}
+use Rattle.uw_chain.specs.RoutingSteps.{RunsTo}
 
 -- ---- what a course reaches
 
 -- a course behind which another one follows
-pub Reaches-then : {X Y : Type 0} → (course : Course X) (asked : List Asked) (rest : Course X) (next : X → Course Y)
-    → Reaches course asked rest → Reaches (and_then course next) asked (and_then rest next)
-Reaches-then course [] rest next h = ap (λ k. and_then k next) h
-Reaches-then (ended result) (one ∷ asked) rest next h = absurd h
-Reaches-then (asking ask more) (one ∷ asked) rest next h = (h.0, Reaches-then (more one.answer) asked rest next h.1)
+pub Unfolds-then : {X Y : Type 0} → (course : Course X) (asked : List Asked) (rest : Course X) (next : X → Course Y)
+    → Unfolds course asked rest → Unfolds (and_then course next) asked (and_then rest next)
+Unfolds-then course [] rest next h = ap (λ k. and_then k next) h
+Unfolds-then (ended result) (one ∷ asked) rest next h = absurd h
+Unfolds-then (asking ask more) (one ∷ asked) rest next h = (h.0, Unfolds-then (more one.answer) asked rest next h.1)
 
 -- some asks, and then others
-pub Reaches-more : {X : Type 0} → (course : Course X) (early late : List Asked) (between rest : Course X)
-    → Reaches course early between → Reaches between late rest → Reaches course (early ++ late) rest
-Reaches-more course [] late between rest first more = let P : Course _ → Type 0 = λ from. Reaches from late rest in subst P (sym first) more
-Reaches-more (ended result) (one ∷ early) late between rest first more = absurd first
-Reaches-more (asking ask next) (one ∷ early) late between rest first more = (first.0, Reaches-more (next one.answer) early late between rest first.1 more)
+pub Unfolds-more : {X : Type 0} → (course : Course X) (early late : List Asked) (between rest : Course X)
+    → Unfolds course early between → Unfolds between late rest → Unfolds course (early ++ late) rest
+Unfolds-more course [] late between rest first more = let P : Course _ → Type 0 = λ from. Unfolds from late rest in subst P (sym first) more
+Unfolds-more (ended result) (one ∷ early) late between rest first more = absurd first
+Unfolds-more (asking ask next) (one ∷ early) late between rest first more = (first.0, Unfolds-more (next one.answer) early late between rest first.1 more)
 
 -- a course that ends, and then the one that its result decides
-pub Reaches-next : {X Y : Type 0} → (course : Course X) (early late : List Asked) (result : X) (next : X → Course Y) (rest : Course Y)
-    → Reaches course early (ended result) → Reaches (next result) late rest → Reaches (and_then course next) (early ++ late) rest
-Reaches-next course early late result next rest first more =
-    Reaches-more (and_then course next) early late (next result) rest (Reaches-then course early (ended result) next first) more
+pub Unfolds-next : {X Y : Type 0} → (course : Course X) (early late : List Asked) (result : X) (next : X → Course Y) (rest : Course Y)
+    → Unfolds course early (ended result) → Unfolds (next result) late rest → Unfolds (and_then course next) (early ++ late) rest
+Unfolds-next course early late result next rest first more =
+    Unfolds-more (and_then course next) early late (next result) rest (Unfolds-then course early (ended result) next first) more
 
 -- ---- what the asks of a course did
 
@@ -131,15 +131,15 @@ pub RunsTo-then_ended : {X Y : Type 0} → (led : List Asking → ℕ → Type 0
     (list after : List Asked) (result : X) (other : Y) → RunsTo led before now moment course list after (Ok result) → next result ≡ ended other
     → RunsTo led before now moment (and_then course next) list after (Ok other)
 RunsTo-then_ended led before now moment course next list after result other h is =
-    let P : Course _ → Type 0 = λ way. Reaches (and_then course next) h.0 way in
-    (h.0, h.1, (subst P is (Reaches-then course h.0 (ended result) next h.2.0), h.2.1))
+    let P : Course _ → Type 0 = λ way. Unfolds (and_then course next) h.0 way in
+    (h.0, h.1, (subst P is (Unfolds-then course h.0 (ended result) next h.2.0), h.2.1))
 
 -- no memory before its first ask
 pub RunsTo-then_memory : {X Y : Type 0} → (led : List Asking → ℕ → Type 0) (before now : Option (List ℕ)) (moment : ℕ) (course : Course X) (next : X → Course Y)
     (list after : List Asked) (result : X) → RunsTo led before now moment course list after (Ok result)
     → RunsTo led before now moment (and_then course next) list after (Err chains.Memory)
 RunsTo-then_memory led before now moment course next list after result h =
-    (h.0, h.1, inl (next result, Reaches-then course h.0 (ended result) next h.2.0, h.2.1))
+    (h.0, h.1, inl (next result, Unfolds-then course h.0 (ended result) next h.2.0, h.2.1))
 
 -- the first one was not followed to its end
 pub RunsTo-fault : {X Y : Type 0} → (led : List Asking → ℕ → Type 0) (before now : Option (List ℕ)) (moment : ℕ) (course : Course X) (next : X → Course Y)
@@ -147,16 +147,16 @@ pub RunsTo-fault : {X Y : Type 0} → (led : List Asking → ℕ → Type 0) (be
     → RunsTo led before now moment (and_then course next) list after (Err end)
 RunsTo-fault led before now moment course next list after (chains.Died true) h =
     let why = h.2.1.1 in
-    (h.0, h.1, (h.2.0, (h.2.1.0, (why.0, λ answer. and_then (why.1 answer) next, Reaches-then course h.0 (asking why.0 why.1) next why.2, why.3))))
+    (h.0, h.1, (h.2.0, (h.2.1.0, (why.0, λ answer. and_then (why.1 answer) next, Unfolds-then course h.0 (asking why.0 why.1) next why.2, why.3))))
 RunsTo-fault led before now moment course next list after (chains.Died false) h =
     let why = h.2.1 in
-    (h.0, h.1, (h.2.0, (why.0, λ answer. and_then (why.1 answer) next, Reaches-then course h.0 (asking why.0 why.1) next why.2, why.3)))
+    (h.0, h.1, (h.2.0, (why.0, λ answer. and_then (why.1 answer) next, Unfolds-then course h.0 (asking why.0 why.1) next why.2, why.3)))
 RunsTo-fault led before now moment course next list after chains.Memory h = (
   h.0,
   h.1,
   elim h.2 [
-    | inl short ↦ inl (and_then short.0 next, Reaches-then course h.0 short.0 next short.1, short.2)
-    | inr why ↦ inr (why.0, λ answer. and_then (why.1 answer) next, Reaches-then course h.0 (asking why.0 why.1) next why.2, why.3)
+    | inl short ↦ inl (and_then short.0 next, Unfolds-then course h.0 short.0 next short.1, short.2)
+    | inr why ↦ inr (why.0, λ answer. and_then (why.1 answer) next, Unfolds-then course h.0 (asking why.0 why.1) next why.2, why.3)
   ],
 )
 
@@ -170,7 +170,7 @@ RunsTo-then led first_led late_led before middle now moment course next list bet
   first.0 ++ more.0,
   more.1 ∙ ap (λ (l : List Asked). l ++ more.0) first.1 ∙ append_assoc list first.0 more.0,
   (
-    Reaches-next course first.0 more.0 result next (ended other) first.2.0 more.2.0,
+    Unfolds-next course first.0 more.0 result next (ended other) first.2.0 more.2.0,
     Led-more led first_led late_led before middle now moment first.0 more.0 [] adds first.2.1 more.2.1,
   ),
 )
@@ -180,8 +180,8 @@ RunsTo-then led first_led late_led before middle now moment course next list bet
   stops end more.2,
 )
   where
-    reaches : (rest : Course _) → Reaches (next result) more.0 rest → Reaches (and_then course next) (first.0 ++ more.0) rest
-    reaches rest h = Reaches-next course first.0 more.0 result next rest first.2.0 h
+    reaches : (rest : Course _) → Unfolds (next result) more.0 rest → Unfolds (and_then course next) (first.0 ++ more.0) rest
+    reaches rest h = Unfolds-next course first.0 more.0 result next rest first.2.0 h
 
     leads : (others : List Asking) → Led late_led middle now moment more.0 others → Led led before now moment (first.0 ++ more.0) others
     leads others h = Led-more led first_led late_led before middle now moment first.0 more.0 others adds first.2.1 h

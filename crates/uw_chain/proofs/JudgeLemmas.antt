@@ -25,7 +25,8 @@ use Rattle.uw_chain.specs.declared.verdict.Verdict.{Verdict}
 use Rattle.uw_chain.specs.declared.verdict.Verdict.TheVariants as verdicts
 use Rattle.uw_chain.specs.Courses.{ended, asking}
 use Rattle.uw_chain.specs.Actions.{cache_ask}
-use Rattle.uw_chain.specs.RoutingSteps.{AsksOnce, RunsTo, course_of_compiled, is_regexp}
+use Rattle.uw_chain.specs.RoutingSteps.{RunsTo, course_of_compiled, is_regexp}
+use Rattle.uw_chain.specs.Runs.{AsksOnce}
 use Rattle.uw_chain.specs.Tests.{about_text, asking_cache, course_of_condition, course_of_known, course_of_test, filled_within, is_flag_set, verdict_of, verdict_of_pattern, verdict_when}
 use Rattle.uw_chain.proofs.CourseLemmas.{RunsTo-fault, RunsTo-same, RunsTo-then_ended, RunsTo-unanswered}
 

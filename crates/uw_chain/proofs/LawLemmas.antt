@@ -11,14 +11,14 @@ use Rattle.uw_chain.specs.declared.outcome.Outcome.{Outcome}
 use Rattle.uw_chain.specs.declared.outcome.Outcome.TheVariants as outcomes
 use Rattle.uw_chain.specs.ActionTexts.{texts_of_action}
 use Rattle.uw_chain.specs.Actions.{course_of_filled, with_filled}
-use Rattle.uw_chain.specs.Courses.{Course, Reaches, ask_next, asking, end_next, ended, next_after}
+use Rattle.uw_chain.specs.Courses.{Course, Unfolds, ask_next, asking, end_next, ended, next_after}
 use Rattle.uw_chain.specs.Endings.{end_overlong}
 use Rattle.uw_chain.specs.Routing.{Naming, course_of_rules}
 
 -- ---- a run by its next asks
 
 -- each ask of a course is the next one after the answers before it
-pub next_asked : {X : Type 0} → (course : Course X) (early late : List Asked) (one : Asked) (rest : Course X) → Reaches course (early ++ one ∷ late) rest
+pub next_asked : {X : Type 0} → (course : Course X) (early late : List Asked) (one : Asked) (rest : Course X) → Unfolds course (early ++ one ∷ late) rest
     → next_after course (map (λ (asked : Asked). asked.answer) early) ≡ ask_next one.ask
 next_asked (ended result) [] late one rest h = absurd h
 next_asked (ended result) (first ∷ early) late one rest h = absurd h
@@ -26,7 +26,7 @@ next_asked (asking ask more) [] late one rest h = ap ask_next (sym h.0)
 next_asked (asking ask more) (first ∷ early) late one rest h = next_asked (more first.answer) early late one rest h.1
 
 -- after all answers comes the end
-pub next_ended : {X : Type 0} → (course : Course X) (all : List Asked) (result : X) → Reaches course all (ended result)
+pub next_ended : {X : Type 0} → (course : Course X) (all : List Asked) (result : X) → Unfolds course all (ended result)
     → next_after course (map (λ (asked : Asked). asked.answer) all) ≡ end_next result
 next_ended course [] result h = ap (λ way. next_after way []) h
 next_ended (ended other) (first ∷ all) result h = absurd h
@@ -35,7 +35,7 @@ next_ended (asking ask more) (first ∷ all) result h = next_ended (more first.a
 -- asks of which each is the next one, and behind which comes the end, are those of a course
 pub reached_next : {X : Type 0} → (course : Course X) (all : List Asked) (result : X)
     → ((early late : List Asked) (one : Asked) → all ≡ early ++ one ∷ late → next_after course (map (λ (asked : Asked). asked.answer) early) ≡ ask_next one.ask)
-    → next_after course (map (λ (asked : Asked). asked.answer) all) ≡ end_next result → Reaches course all (ended result)
+    → next_after course (map (λ (asked : Asked). asked.answer) all) ≡ end_next result → Unfolds course all (ended result)
 reached_next (ended other) [] result each end = cc
 reached_next (asking ask more) [] result each end = absurd (cc)
 reached_next (ended other) (first ∷ all) result each end =
@@ -52,8 +52,8 @@ same_asked : (one other : Asked) → one.ask ≡ other.ask → one.answer ≡ ot
 same_asked one other asks answers = ap₂ (λ ask answer. record { ask = ask; answer = answer }) asks answers
 
 -- the same answers make the same asks and the same end
-pub told_by_answers : {X : Type 0} → (course : Course X) (all others : List Asked) (result last : X) → Reaches course all (ended result)
-    → Reaches course others (ended last) → map (λ (asked : Asked). asked.answer) all ≡ map (λ (asked : Asked). asked.answer) others
+pub told_by_answers : {X : Type 0} → (course : Course X) (all others : List Asked) (result last : X) → Unfolds course all (ended result)
+    → Unfolds course others (ended last) → map (λ (asked : Asked). asked.answer) all ≡ map (λ (asked : Asked). asked.answer) others
     → (all ≡ others) × (result ≡ last)
 told_by_answers course [] [] result last h other same = (refl, cc)
 told_by_answers course [] (second ∷ others) result last h other same = absurd (cc)
@@ -63,7 +63,7 @@ told_by_answers (asking ask more) (first ∷ all) (second ∷ others) result las
     let answer : first.answer ≡ second.answer = cc in
     let answers : map (λ (asked : Asked). asked.answer) all ≡ map (λ (asked : Asked). asked.answer) others = cc in
     let asks : first.ask ≡ second.ask = h.0 ∙ sym other.0 in
-    let moved : Reaches (more first.answer) others (ended last) = subst (λ one. Reaches (more one) others (ended last)) (sym answer) other.1 in
+    let moved : Unfolds (more first.answer) others (ended last) = subst (λ one. Unfolds (more one) others (ended last)) (sym answer) other.1 in
     let rest = told_by_answers (more first.answer) all others result last h.1 moved answers in
     (ap₂ (λ one l. one ∷ l) (same_asked first second asks answer) rest.0, rest.1)
 

@@ -25,8 +25,8 @@ next_after (ended result) answers = end_next result
 next_after (asking ask more) [] = ask_next ask
 next_after (asking ask more) (answer ∷ answers) = next_after (more answer) answers
 
--- these are the next asks of a course, each after the answers before it, and behind them is the rest of it
-abbrev pub Reaches : {X : Type 0} → Course X → List Asked → Course X → Type 0
-Reaches course [] rest = course ≡ rest
-Reaches (ended result) (asked ∷ more) rest = ⊥
-Reaches (asking ask next) (asked ∷ more) rest = (asked.ask ≡ ask) × Reaches (next asked.answer) more rest
+-- a course unfolds by these asks, each the next one after the answers before it, and behind them is the rest of it
+abbrev pub Unfolds : {X : Type 0} → Course X → List Asked → Course X → Type 0
+Unfolds course [] rest = course ≡ rest
+Unfolds (ended result) (asked ∷ more) rest = ⊥
+Unfolds (asking ask next) (asked ∷ more) rest = (asked.ask ≡ ask) × Unfolds (next asked.answer) more rest

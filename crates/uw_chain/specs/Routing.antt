@@ -13,7 +13,7 @@ use Rattle.uw_chain.specs.declared.outcome.Outcome.{Outcome}
 use Rattle.uw_chain.specs.declared.outcome.Outcome.TheVariants as outcomes
 use Rattle.uw_chain.specs.declared.verdict.Verdict.{Verdict}
 use Rattle.uw_chain.specs.declared.verdict.Verdict.TheVariants as verdicts
-use Rattle.uw_chain.specs.Courses.{Course, Next, Reaches, and_then, ended, next_after}
+use Rattle.uw_chain.specs.Courses.{Course, Next, Unfolds, and_then, ended, next_after}
 use Rattle.uw_chain.specs.Endings.{end_of_table, end_overlong}
 use Rattle.uw_chain.specs.Tests.{course_of_test}
 use Rattle.uw_chain.specs.Actions.{course_of_action}
@@ -69,4 +69,4 @@ next_of_rules naming rules moment vars answers = next_after (course_of_request n
 
 -- a whole run of the rules: these are its asks, each the next one after the answers before it, and after all of them it ends so
 abbrev pub RoutingRun : Naming → List WrittenRule → ℕ → List Pair → List Asked → RouteEnd → Type 0
-RoutingRun naming rules moment vars asked ending = Reaches (course_of_request naming rules moment vars) asked (ended ending)
+RoutingRun naming rules moment vars asked ending = Unfolds (course_of_request naming rules moment vars) asked (ended ending)

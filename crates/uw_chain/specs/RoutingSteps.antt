@@ -1,15 +1,12 @@
 -- What the parts of routing do.
 use Rattle.std.specs.Prelude.{◌≡◌, ℕ, Bool, true, false, List, [], ◌∷◌, ◌++◌, Option, None, Some, Result, Ok, Err, length, ◌==◌}
 use Rattle.std.specs.Str.{bytes_eq}
-use Rattle.uw_outside.specs.Lives.{IsSpent}
 use Rattle.uw_base.specs.declared.variables.Pair.{Pair}
 use Rattle.uw_model.specs.declared.asks.Ask.{Ask}
 use Rattle.uw_model.specs.declared.asks.AskAnswer.{AskAnswer}
-use Rattle.uw_model.specs.declared.asks.Asked.{Asked}
 use Rattle.uw_model.specs.declared.calls.Call.{Call}
 use Rattle.uw_model.specs.declared.desk.DeskFault.{DeskFault}
 use Rattle.uw_model.specs.declared.desk.DeskFault.TheVariants as desks
-use Rattle.uw_model.specs.Asks.{Asking, answered, died_absent, died_whole, Leads, IsUnanswered}
 use Rattle.uw_rules.specs.declared.compiled.Condition.{Condition}
 use Rattle.uw_rules.specs.declared.compiled.Condition.TheVariants as asks
 use Rattle.uw_chain.specs.declared.faults.ChainEnd.{ChainEnd}
@@ -24,9 +21,11 @@ use Rattle.uw_chain.specs.declared.judging.Comparison.TheVariants as comparisons
 use Rattle.uw_chain.specs.declared.acting.Want.{Want}
 use Rattle.uw_rules.specs.declared.compiled.Action.{Action}
 use Rattle.uw_rules.specs.declared.compiled.Action.TheVariants as does
+use Rattle.uw_model.specs.Asks.{Asking}
+use Rattle.uw_model.specs.declared.asks.Asked.{Asked}
 use Rattle.uw_chain.specs.Courses.{Course, asking, ended}
-use Rattle.uw_chain.specs.Endings.{end_overlong}
 use Rattle.uw_chain.specs.Runs.{Follows, Stops}
+use Rattle.uw_chain.specs.Endings.{end_overlong}
 use Rattle.uw_chain.specs.Tests.{about_text, asking_cache, comparing, filled_within, has_back, has_front, has_within, verdict_of}
 use Rattle.uw_chain.specs.Actions.{cache_ask, value_outcome, with_answer}
 
@@ -37,25 +36,10 @@ abbrev pub RunsTo : {X : Type 0} → (List Asking → ℕ → Type 0) → Option
 RunsTo led before now moment course list after (Ok result) = (made : List Asked) × (after ≡ list ++ made) × Follows led before now moment course made result
 RunsTo led before now moment course list after (Err end) = (made : List Asked) × (after ≡ list ++ made) × Stops led before now moment course made end
 
--- the worker died
-abbrev pub has_died_following : {X : Type 0} → Result X ChainEnd → Bool
-has_died_following (Ok result) = false
-has_died_following (Err (chains.Died whole)) = true
-has_died_following (Err chains.Memory) = false
-
 -- the end of a chain that a desk's fault is
 abbrev pub end_of_fault : DeskFault → ChainEnd
 end_of_fault (desks.Died whole) = chains.Died whole
 end_of_fault desks.Memory = chains.Memory
-
--- an ask was answered, and stands with its answer at the end of a list; or why it was not
-abbrev pub AsksOnce : {T : Type 0} → (List Asking → ℕ → Type 0) → Option (List ℕ) → Option (List ℕ) → ℕ → Ask → List Asked → List Asked → Result T ChainEnd → Type 0
-AsksOnce led before now moment ask list after (Ok done) =
-    (answer : AskAnswer) × (after ≡ list ++ record { ask = ask; answer = answer } ∷ []) × Leads led before now moment ask (answered answer)
-AsksOnce led before now moment ask list after (Err (chains.Died true)) =
-    (after ≡ list) × IsSpent now × ((answer : AskAnswer) × Leads led before now moment ask (died_whole answer))
-AsksOnce led before now moment ask list after (Err (chains.Died false)) = (after ≡ list) × IsSpent now × Leads led before now moment ask died_absent
-AsksOnce led before now moment ask list after (Err chains.Memory) = (after ≡ list) × IsUnanswered led before now moment ask
 
 -- ---- conditions
 

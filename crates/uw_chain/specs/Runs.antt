@@ -5,24 +5,24 @@ use Rattle.uw_base.specs.declared.variables.Pair.{Pair}
 use Rattle.uw_model.specs.declared.asks.Ask.{Ask}
 use Rattle.uw_model.specs.declared.asks.AskAnswer.{AskAnswer}
 use Rattle.uw_model.specs.declared.asks.Asked.{Asked}
-use Rattle.uw_model.specs.Asks.{Asking, died_absent, died_whole, no_memory, Led}
+use Rattle.uw_model.specs.Asks.{Asking, answered, died_absent, died_whole, no_memory, IsUnanswered, Leads, Led}
 use Rattle.uw_rules.specs.WrittenRules.{WrittenRule}
 use Rattle.uw_chain.specs.declared.faults.ChainEnd.{ChainEnd}
 use Rattle.uw_chain.specs.declared.faults.ChainEnd.TheVariants as chains
 use Rattle.uw_chain.specs.declared.faults.ChainFault.{ChainFault}
 use Rattle.uw_chain.specs.declared.faults.Routed.{Routed}
 use Rattle.uw_chain.specs.declared.outcome.RouteEnd.{RouteEnd}
-use Rattle.uw_chain.specs.Courses.{Course, Reaches, asking, ended}
+use Rattle.uw_chain.specs.Courses.{Course, Unfolds, asking, ended}
 use Rattle.uw_chain.specs.Routing.{Naming, course_of_request, RoutingRun}
 
 -- a course was followed to its end by these asks, which led the desk on
 abbrev pub Follows : {X : Type 0} → (List Asking → ℕ → Type 0) → Option (List ℕ) → Option (List ℕ) → ℕ → Course X → List Asked → X → Type 0
-Follows led before now moment course asked result = Reaches course asked (ended result) × Led led before now moment asked []
+Follows led before now moment course asked result = Unfolds course asked (ended result) × Led led before now moment asked []
 
 -- these asks of a course led the desk on, and the next one after them ended so, without an answer that anybody was told
 abbrev pub BreaksOff : {X : Type 0} → (List Asking → ℕ → Type 0) → Option (List ℕ) → Option (List ℕ) → ℕ → Course X → List Asked → (Ask → Asking) → Type 0
 BreaksOff {X} led before now moment course asked last =
-    (ask : Ask) × (more : AskAnswer → Course X) × Reaches course asked (asking ask more) × Led led before now moment asked (last ask ∷ [])
+    (ask : Ask) × (more : AskAnswer → Course X) × Unfolds course asked (asking ask more) × Led led before now moment asked (last ask ∷ [])
 
 -- why a course was not followed to its end, behind these asks: the worker died in the next one, whose answer nobody was told where it counts; or there was no
 -- memory, for the next ask or for something else
@@ -32,8 +32,23 @@ Stops led before now moment course asked (chains.Died true) =
 Stops led before now moment course asked (chains.Died false) =
     IsSpent now × BreaksOff led before now moment course asked (λ ask. record { moment = moment; ask = ask; end = died_absent })
 Stops {X} led before now moment course asked chains.Memory =
-    ((rest : Course X) × Reaches course asked rest × Led led before now moment asked [])
+    ((rest : Course X) × Unfolds course asked rest × Led led before now moment asked [])
     ⊎ BreaksOff led before now moment course asked (λ ask. record { moment = moment; ask = ask; end = no_memory })
+
+-- an ask was answered, and stands with its answer at the end of a list; or why it was not
+abbrev pub AsksOnce : {T : Type 0} → (List Asking → ℕ → Type 0) → Option (List ℕ) → Option (List ℕ) → ℕ → Ask → List Asked → List Asked → Result T ChainEnd → Type 0
+AsksOnce led before now moment ask list after (Ok done) =
+    (answer : AskAnswer) × (after ≡ list ++ record { ask = ask; answer = answer } ∷ []) × Leads led before now moment ask (answered answer)
+AsksOnce led before now moment ask list after (Err (chains.Died true)) =
+    (after ≡ list) × IsSpent now × ((answer : AskAnswer) × Leads led before now moment ask (died_whole answer))
+AsksOnce led before now moment ask list after (Err (chains.Died false)) = (after ≡ list) × IsSpent now × Leads led before now moment ask died_absent
+AsksOnce led before now moment ask list after (Err chains.Memory) = (after ≡ list) × IsUnanswered led before now moment ask
+
+-- the worker died
+abbrev pub has_died_following : {X : Type 0} → Result X ChainEnd → Bool
+has_died_following (Ok result) = false
+has_died_following (Err (chains.Died whole)) = true
+has_died_following (Err chains.Memory) = false
 
 -- a request was routed: its asks and its end are a run of the rules, and the asks led the desk on; or why it was not
 abbrev pub Routes : (List Asking → ℕ → Type 0) → Option (List ℕ) → Option (List ℕ) → Naming → List WrittenRule → ℕ → List Pair → Result Routed ChainFault → Type 0

@@ -6,7 +6,8 @@ ghost use Rattle.uw_chain.specs.declared.outcome.Outcome.TheVariants as outcomes
 ghost use Rattle.uw_chain.specs.Actions.{course_of_action, rewritten, type_filled, variable_text, with_answer, with_filled, with_text, with_variable};
 ghost use Rattle.uw_chain.specs.Courses.{ended};
 ghost use Rattle.uw_chain.specs.Endings.{end_by_redirect, with_header};
-ghost use Rattle.uw_chain.specs.RoutingSteps.{RunsTo, cache_in, course_of_want, has_died_following, is_asking, key_in, used_by, var_in};
+ghost use Rattle.uw_chain.specs.RoutingSteps.{RunsTo, cache_in, course_of_want, is_asking, key_in, used_by, var_in};
+ghost use Rattle.uw_chain.specs.Runs.{has_died_following};
 ghost use Rattle.uw_chain.specs.Tests.{filled_within};
 
 use crate::asking::{ask_cache, last_answer};

@@ -8,7 +8,8 @@ ghost use Rattle.uw_rules.specs.Patterns.{IsPatternOf};
 ghost use Rattle.uw_rules.specs.WrittenRules.{WrittenTest};
 ghost use Rattle.uw_chain.specs.Courses.{ended};
 ghost use Rattle.uw_chain.specs.KeptSearches.{FitsCondition, FitsPattern, FitsTest};
-ghost use Rattle.uw_chain.specs.RoutingSteps.{RunsTo, both_within, compares, course_of_compiled, has_died_following, is_ask, is_regexp};
+ghost use Rattle.uw_chain.specs.RoutingSteps.{RunsTo, both_within, compares, course_of_compiled, is_ask, is_regexp};
+ghost use Rattle.uw_chain.specs.Runs.{has_died_following};
 ghost use Rattle.uw_chain.specs.Tests.{about_text, asking_cache, comparing, course_of_condition, course_of_test, filled_within, has_back, has_front, has_within, is_flag_set, verdict_of, verdict_of_pattern, verdict_when};
 
 use crate::asking::{ask_cache, last_answer};

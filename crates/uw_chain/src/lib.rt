@@ -2,7 +2,7 @@
 #![tactic(auto)]
 
 mod acting;
-mod asking;
+pub mod asking;
 mod endings;
 pub mod faults;
 mod filling;
@@ -14,6 +14,7 @@ mod routing;
 pub mod searches;
 pub mod verdict;
 
+pub use asking::{ask, last_answer};
 pub use faults::{ChainEnd, ChainFault, Routed};
 pub use outcome::{Outcome, RouteEnd};
 pub use request::Request;

@@ -6,9 +6,9 @@ ghost use Rattle.uw_rules.specs.Compiled.{IsRuleOf, rules_of};
 ghost use Rattle.uw_rules.specs.Tables.{AreRulesOf};
 ghost use Rattle.uw_rules.specs.WrittenRules.{WrittenRule};
 ghost use Rattle.uw_chain.specs.Routing.{Naming, course_of_rule, course_of_rules};
-ghost use Rattle.uw_chain.specs.RoutingSteps.{RunsTo, has_died_following};
+ghost use Rattle.uw_chain.specs.Runs.{Routes, has_died_following, has_died_routing};
+ghost use Rattle.uw_chain.specs.RoutingSteps.{RunsTo};
 ghost use Rattle.uw_chain.specs.KeptSearches.{FitSlots, FitTable, FitsRule};
-ghost use Rattle.uw_chain.specs.Runs.{Routes, has_died_routing};
 
 use crate::acting::act;
 use crate::faults::{ChainEnd, ChainFault, Routed};

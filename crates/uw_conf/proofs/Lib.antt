@@ -10,4 +10,4 @@ pub mod LastLineLemmas
 mod WalkLemmas
 mod RuleTextLemmas
 mod DecideLemmas
-mod RouteCacheLemmas
+pub mod RouteCacheLemmas

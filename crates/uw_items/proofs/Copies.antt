@@ -6,27 +6,11 @@ use Rattle.std.proofs.lemmas.Nat.{le_bytes_8}
 use Rattle.std.proofs.lemmas.List.{append-nil, length-take-le, get_or-take, get_or-drop, take-append-le, take-take, take-append-drop, drop-drop}
 use Rattle.std.proofs.Math.Seq.{take-append_seam, take-append-add}
 use Rattle.uw_words.specs.Plans.{Plan, region, Names}
-use Rattle.uw_words.specs.Numbers.{IsNoneOf, places_from}
+use Rattle.uw_words.specs.Numbers.{places_from}
 use Rattle.uw_words.specs.Parts.{seen, HasRoom, GrewAt}
 use Rattle.uw_words.specs.Records.{text_word}
-use Rattle.uw_words.proofs.Growth.{put_on, grew_none, grew_put, grew_then, room_now, room_then, read_put, read_other}
+use Rattle.uw_words.proofs.Growth.{put_on, grew_none, grew_put, grew_then, room_now, room_then, read_put, read_other, places_split}
 use Rattle.uw_items.specs.Texts.{HoldsText, word_bytes, text_at}
-
--- places in a row are some of them, and then the others
-pub places_split : (first early late : ℕ) → places_from first (early + late) ≡ places_from first early ++ places_from (first + early) late
-places_split first zero late =
-    let none : zero + late ≡ late = omega arith in
-    let same : first + zero ≡ first = omega arith in
-    ap (places_from first) none ∙ ap (λ (at : ℕ). places_from at late) (sym same)
-places_split first (suc early) late =
-    let sum : suc early + late ≡ suc (early + late) = omega arith in
-    let next : first + 1 + early ≡ first + suc early = omega arith in
-    ap (places_from first) sum ∙ ap (λ (places : List ℕ). first ∷ places) (places_split (first + 1) early late ∙ ap (λ (at : ℕ). places_from (first + 1) early ++ places_from at late) next)
-
--- a place before a row is none of it
-pub none_before : (first count at : ℕ) → at < first → IsNoneOf (places_from first count) at
-none_before first zero at low = tt
-none_before first (suc count) at low = ((λ same. absurd (omega (arith, same))), none_before (first + 1) count at (omega arith))
 
 -- so many words of a text are put
 pub record Putting (plan now : Plan) (at : ℕ) (text : List ℕ) (count : ℕ) : Type 0 where

@@ -1,5 +1,5 @@
 -- What an item holds, and the places of it.
-use Rattle.std.proofs.Common.{zero, suc, ◌≡◌, inl, inr, ℕ, ◌+◌, ◌*◌, ◌-◌, ◌<◌, ◌≤◌, List, [], ◌∷◌, length, get_or, refl, sym, ap, ◌∙◌, subst, arith}
+use Rattle.std.proofs.Common.{◌≡◌, inl, inr, ℕ, ◌+◌, ◌*◌, ◌-◌, ◌<◌, ◌≤◌, List, [], ◌∷◌, length, get_or, refl, sym, ap, ◌∙◌, subst, arith}
 use Rattle.std.specs.Int.{div_ceil}
 use Rattle.uw_base.specs.Numbers.{djb33x_of}
 use Rattle.uw_words.specs.declared.shape.Shape.{Shape}
@@ -9,13 +9,13 @@ use Rattle.uw_words.specs.Numbers.{IsOneOf, IsNoneOf, places_from}
 use Rattle.uw_words.specs.Parts.{seen, AgreeOn, HasRoom, GrewAt}
 use Rattle.uw_words.specs.Walks.{link_of, item_word}
 use Rattle.uw_words.specs.Records.{HoldsKey}
-use Rattle.uw_words.proofs.Growth.{put_on, puts_on, grew_puts, grew_then, read_put, read_other, read_grown, in_row, row_has}
+use Rattle.uw_words.proofs.Growth.{put_on, puts_on, grew_puts, grew_then, read_put, read_other, read_grown, in_row, row_has, none_before, row_length}
 use Rattle.uw_words.proofs.Links.{link_above, item_within, same_item}
 use Rattle.uw_items.specs.declared.records.Fields.{Fields}
 use Rattle.uw_items.specs.Texts.{HoldsText, text_at}
 use Rattle.uw_items.specs.Items.{block_place, LieInBlocks, held_key, key_places, HoldsValue, held_value, value_places, HoldsFields, field_places, IsRecordPlace}
 use Rattle.uw_items.specs.FreeList.{IsFreePlace}
-use Rattle.uw_items.proofs.Copies.{none_before, text_back}
+use Rattle.uw_items.proofs.Copies.{text_back}
 
 -- the end of an item is within the region
 pub item_end : (shape : Shape) → IsShape shape → (item : ℕ) → item < shape.n_items → link_of shape item + shape.stride ≤ shape.blocks
@@ -168,10 +168,6 @@ fields_off_key shape item bytes at one =
     before (inr (inl here)) = omega (arith, here)
     before (inr (inr (inl here))) = omega (arith, here)
     before (inr (inr (inr none))) = absurd none
-
-row_length : (first count : ℕ) → length (places_from first count) ≡ count
-row_length first zero = refl
-row_length first (suc count) = ap suc (row_length (first + 1) count)
 
 pub key_count : (shape : Shape) (item bytes : ℕ) → length (key_places shape item bytes) ≡ 2 + div_ceil bytes 8
 key_count shape item bytes = omega (arith, row_length (link_of shape item + 8) (div_ceil bytes 8))

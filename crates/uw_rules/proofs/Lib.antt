@@ -1,4 +1,5 @@
 mod PatternLemmas
+mod WeightLemmas
 pub mod ArgumentLemmas
 pub mod CompileLemmas
 pub mod LabelLemmas

@@ -3,7 +3,8 @@ use Rattle.std.proofs.Common.{◌≡◌, ◌≢◌, ℕ, ◌<◌, ◌≤◌, tru
 use Rattle.std.proofs.lemmas.Bool.{le-leb, lt-leb}
 use Rattle.regex_syntax.specs.Brackets.{Nested}
 use Rattle.regex_syntax.specs.Grammar.{Names}
-use Rattle.regex_syntax.specs.declared.error.ErrorKind.TheVariants as kind
+use Rattle.regex_syntax.specs.declared.error.ErrorKind.{ErrorKind}
+use Rattle.regex_syntax.specs.declared.error.ErrorKind.TheVariants as kinds
 use Rattle.regex.specs.Patterns.{Re, Config, Reads, Refuses}
 use Rattle.regex.specs.Names.{names_of}
 use Rattle.regex.specs.Failures.{IsPattern, IsRightKind}
@@ -14,6 +15,7 @@ use Rattle.regex.specs.declared.error.Error.{Error}
 use Rattle.regex_syntax.specs.declared.error.Error as parser
 use Rattle.regex.specs.declared.error.Error.TheVariants.{Syntax, CompiledTooBig}
 use Rattle.uw_rules.specs.Patterns.{pattern_config, pattern_read, nests_within, is_pattern, IsPatternOf}
+use Rattle.uw_rules.specs.Weight.{IsReadWithWeight}
 
 -- what is there and has a property has each one that follows from it
 if_some : {A : Type 0} (found : Option A) (P Q : A → Type 0) → ((x : A) → P x → Q x) → IsSomeAnd found P → IfSome found Q
@@ -37,16 +39,24 @@ unfolding is_pattern Reads
 good text error too_big right =
     let reads : IsPattern pattern_config text = subst (IsRightKind pattern_config text) too_big right in within (pattern_read text) _ (λ x h. h.0) reads.2
 
--- a text that the crate's grammar refuses is none
-pub bad : (text : List ℕ) (error : Error) (e : parser.Error) → error ≡ Syntax e → IsRefusal pattern_config text error → IsRightKind pattern_config text error →
-    is_pattern text ≡ false
+-- a text that the grammar reads as a tree of some weight is a pattern
+pub weighed : (text : List ℕ) (IsSuch : ℕ → Type 0) → IsReadWithWeight text IsSuch → is_pattern text ≡ true
+unfolding is_pattern Reads
+weighed text IsSuch read = within (pattern_read text) _ (λ x h. h.0) read.2
+
+-- a text that the parser refuses, but not for want of memory, is none
+pub unread : (text : List ℕ) (kind : ErrorKind) → kind ≢ kinds.OutOfMemory → Refuses pattern_config text kind → is_pattern text ≡ false
 unfolding is_pattern Refuses
-bad text error e syntax refused right =
-    let known : e.kind ≢ kind.OutOfMemory = subst (IsRightKind pattern_config text) syntax right in
+unread text kind known refused =
     ⊎_elim
     (λ memory. absurd (known memory))
     (λ others. ⊎_elim (λ none. ap (nests_within 250) none) (λ deep. past (pattern_read text) deep.1) others)
-    (refused e syntax)
+    refused
+
+-- a text that the crate's grammar refuses is none
+pub bad : (text : List ℕ) (error : Error) (e : parser.Error) → error ≡ Syntax e → IsRefusal pattern_config text error → IsRightKind pattern_config text error →
+    is_pattern text ≡ false
+bad text error e syntax refused right = unread text e.kind (subst (IsRightKind pattern_config text) syntax right) (refused e syntax)
 
 -- the regex is read from the text under the options
 abbrev IsReadFrom : Regex → Config → List ℕ → Type 0

@@ -1,4 +1,5 @@
 pub mod Patterns
+pub mod Weight
 pub mod RegexPatterns
 pub mod Grammar
 pub mod Arguments

@@ -9,6 +9,6 @@ pub record Maker : Type 0 where
   pub calls : ℕ
   pub faults : ℕ
 
--- only a text that is a pattern is refused: the crate finds it too large
+-- only a text that is a pattern is refused: it weighs too much, or the crate finds it too large
 abbrev pub RefusesPatterns : List ℕ → Built → Type 0
 RefusesPatterns text built = is_refused built ≡ true → is_pattern text ≡ true

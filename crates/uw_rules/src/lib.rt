@@ -14,6 +14,7 @@ mod lines;
 pub mod patterns;
 mod reading;
 pub mod regex_patterns;
+mod weight;
 mod written;
 
 pub use compiled::{Action, Condition, Rule, RuleTable, Test};

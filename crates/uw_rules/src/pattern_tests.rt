@@ -63,6 +63,115 @@ fn texts_are_patterns_or_not(rt: HostRuntime) -> Result<(), Fail> {
     Ok(())
 }
 
+// A pattern weighs at most 2,500.
+const WEIGHED: [(&str, Kind); 28] = [
+    // A byte weighs 1, a class 2, and one of hundreds of ranges more.
+    ("a{2500}", Kind::Pattern),
+    ("a{2501}", Kind::Refused),
+    ("[ab]{1250}", Kind::Pattern),
+    ("[ab]{1251}", Kind::Refused),
+    ("\\w{92}", Kind::Pattern),
+    ("\\w{93}", Kind::Refused),
+    ("\\pL{108}", Kind::Pattern),
+    ("\\pL{109}", Kind::Refused),
+    ("é{1250}", Kind::Pattern),
+    ("é{1251}", Kind::Refused),
+    // So do what is empty, assertions, branches and groups.
+    ("(?:a\\b){833}", Kind::Pattern),
+    ("(?:a\\b){834}", Kind::Refused),
+    ("(?:ab|cd|){208}", Kind::Pattern),
+    ("(?:ab|cd|){209}", Kind::Refused),
+    ("(a){500}", Kind::Pattern),
+    ("(a){501}", Kind::Refused),
+    // A count multiplies, and a copy that may be left out weighs 2 more.
+    ("(?:a{50}){50}", Kind::Pattern),
+    ("(?:a{50}){51}", Kind::Refused),
+    ("(?:[ab]{1,280}){1,280}[^ab]", Kind::Refused),
+    ("a{0,833}", Kind::Pattern),
+    ("a{0,834}", Kind::Refused),
+    ("(?x)a { 25 # a count\n01 }", Kind::Refused),
+    ("a{2000}{0}", Kind::Pattern),
+    // A repetition without an upper bound weighs three times what it repeats, and 2.
+    ("(?:a{832})*", Kind::Pattern),
+    ("(?:a{833})+", Kind::Refused),
+    ("a{833,}", Kind::Refused),
+    ("((((a*)*)*)*)*", Kind::Pattern),
+    ("(((((a*)*)*)*)*)*", Kind::Refused),
+];
+
+#[test]
+fn heavy_patterns_are_refused(rt: HostRuntime) -> Result<(), Fail> {
+    let mut make = maker(rt.alloc(), &[])?;
+    for (text, want) in WEIGHED {
+        assert_eq!(rt; made(rt.alloc(), &mut make, text), want, "{text}");
+    }
+    Ok(())
+}
+
+// Those that cost most of the light ones, as far as they were found: bench/rules/patterns times them.
+const HEAVIEST: [&str; 12] = [
+    "[ab]*a[ab]{1244}[^ab]",
+    "[ab]*a\\w{92}[^ab]",
+    "\\w*[aé]\\w{88}\\W",
+    "[ab]*a[ab]{20}a{2440}[^ab]",
+    "[ab]*a[ab]{622}(?:[ab]?){311}[^ab]",
+    "[ab]*a\\w{86}[ab]*?[^é]{50}babba[ab]*$",
+    "[ab]*a[a-c]*?[ab]{1,600}[^é]+\\b(?:([ab])|[a-c]{5,10})",
+    "[ab]*a([ab]){414}[^ab]",
+    "[ab]*a(?:\\B[ab]){622}[^ab]",
+    "[ab]*a(?:[ab]{20}){1,59}[^ab]",
+    "(?:[ab]{1,24}){1,24}[^ab]",
+    "[ab]*a(?:(?:(?:(?:[ab]?){22})*)*)*[^ab]",
+];
+
+// Such as stand in configurations.
+const SANE: [&str; 9] = [
+    "\\w{64}",
+    "^[\\w.-]{1,64}$",
+    "(?-u)^[\\w.-]{1,255}$",
+    "^[0-9a-f]{8}(-[0-9a-f]{4}){3}-[0-9a-f]{12}$",
+    "^/[a-z0-9_-]{1,64}(/[a-z0-9_-]{1,64}){0,7}$",
+    "(?i)^(www\\.)?example\\.(org|com|net)$",
+    "^((25[0-5]|2[0-4]\\d|1?\\d?\\d)\\.){3}(25[0-5]|2[0-4]\\d|1?\\d?\\d)$",
+    "^/(\\d{4})/(\\d{2})/(\\d{2})/([^/]+?)(\\.html?)?$",
+    "\\.(png|jpe?g|gif|webp|svg|css|js|woff2?|ico)$",
+];
+
+#[test]
+fn sane_and_timed_patterns_are_light(rt: HostRuntime) -> Result<(), Fail> {
+    let mut make = maker(rt.alloc(), &[])?;
+    for text in SANE {
+        assert_eq!(rt; made(rt.alloc(), &mut make, text), Kind::Pattern, "{text}");
+    }
+    for text in HEAVIEST {
+        assert_eq!(rt; made(rt.alloc(), &mut make, text), Kind::Pattern, "{text}");
+    }
+    Ok(())
+}
+
+// So many words of ten letters, of which one is to match.
+fn words(alloc: Global, count: u32) -> Result<String, AllocError> {
+    let mut text = String::new(alloc);
+    for number in 0..count {
+        if number > 0 {
+            text.push('|')?;
+        }
+        write!(text, "{number:010}")?;
+    }
+    Ok(text)
+}
+
+#[test]
+fn a_choice_of_two_hundred_words_is_light(rt: HostRuntime) -> Result<(), Fail> {
+    let rows = [(200, Kind::Pattern), (250, Kind::Refused)];
+    let mut make = maker(rt.alloc(), &[])?;
+    for (count, want) in rows {
+        let text = words(rt.alloc(), count)?;
+        assert_eq!(rt; made(rt.alloc(), &mut make, &text), want, "{count}");
+    }
+    Ok(())
+}
+
 // Groups that nest so deep.
 fn nested(alloc: Global, depth: usize) -> Result<String, AllocError> {
     let mut text = String::new(alloc);

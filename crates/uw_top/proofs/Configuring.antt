@@ -1,5 +1,5 @@
 -- A configuration from the text that was read.
-use Rattle.std.proofs.Common.{◌≡◌, ℕ, ◌+◌, ◌<◌, ◌≤◌, List, [], length, take, Option, Result, Ok, Err, inl, inr, arith}
+use Rattle.std.proofs.Common.{◌≡◌, ℕ, ◌+◌, ◌<◌, ◌≤◌, List, [], length, take, Option, Result, Ok, Err, refl, inl, inr, arith}
 use Rattle.std.proofs.Math.Seq.{take-length}
 use Rattle.std.proofs.lemmas.List.{length-take-le}
 use Rattle.uw_outside.specs.Streams.{Takes}
@@ -11,7 +11,10 @@ use Rattle.uw_conf.specs.declared.conf.ConfFault.{ConfFault}
 use Rattle.uw_conf.specs.Configuration.{most_text_bytes}
 use Rattle.uw_ends.specs.declared.ends.RunFault.{RunFault}
 use Rattle.uw_ends.specs.declared.ends.RunFault.TheVariants as faults
-use Rattle.uw_top.specs.Run.{ReadsText, IsSaid, IsSaidWithACache, Runs}
+use Rattle.uw_conf.proofs.RouteCacheLemmas.{names_caches}
+use Rattle.uw_conf.specs.Given.{options_in}
+use Rattle.uw_session.specs.Exchange.{IsSiteOf, Site}
+use Rattle.uw_top.specs.Run.{ReadsText, IsSaid, IsSaidWithACache, Runs, site_of}
 use Rattle.uw_top.specs.RunSteps.{GivesConf, Says}
 
 -- what a text says is the configuration that is given, or the refusal
@@ -37,9 +40,17 @@ pub nothing_read : (left : Option (List ℕ)) → (text : List ℕ) × Takes lef
 nothing_read left = ([], Takes-none left, omega arith)
 
 -- a command over a configuration that was given
-pub runs_over : (said : List ℕ → Result Conf ConfFault → Type 0) (r : Inflow) (untouched : Type 0) (fault : Option RunFault) (Ran : Conf → Type 0) (conf : Conf)
-    → GivesConf said r (Ok conf) → Ran conf → Runs said r untouched fault Ran
-runs_over said r untouched fault Ran conf given ran = inl (given.0, conf, given.1, given.2, ran)
+pub runs_over : (said : List ℕ → Result Conf ConfFault → Type 0) (r : Inflow) (untouched : Type 0) (fault : Option RunFault) (Ran : Site → Type 0) (conf : Conf)
+    → GivesConf said r (Ok conf) → ((text : List ℕ) → said text (Ok conf) → Ran (site_of text (options_in conf))) → Runs said r untouched fault Ran
+runs_over said r untouched fault Ran conf given ran = inl (given.0, conf, given.1, given.2, ran given.0 given.2)
+
+-- the site of a text that says a configuration
+pub site_is : (before after : ℕ) (text : List ℕ) (conf : Conf) → IsSaid before after text (Ok conf) → IsSiteOf conf (site_of text (options_in conf))
+site_is before after text conf said = record {
+  options = refl;
+  names = names_caches text (options_in conf) said.0;
+  rules = said.1;
+}
 
 -- what is given for a command that needs a cache
 pub cache_given : (before after : ℕ) (r : Inflow) (conf : Conf) (result : Result Conf RunFault) → GivesConf (IsSaid before after) r (Ok conf)
@@ -47,7 +58,7 @@ pub cache_given : (before after : ℕ) (r : Inflow) (conf : Conf) (result : Resu
 cache_given before after r conf result given says = conf_given (IsSaidWithACache before after) r given.0 result given.1 (says before after given.0 given.2)
 
 -- what holds of a run, said of more
-pub runs_map : (said : List ℕ → Result Conf ConfFault → Type 0) (r : Inflow) (untouched still : Type 0) (fault : Option RunFault) (Ran Did : Conf → Type 0)
-    → (untouched → still) → ((conf : Conf) → Ran conf → Did conf) → Runs said r untouched fault Ran → Runs said r still fault Did
-runs_map said r untouched still fault Ran Did same does (inl (text, conf, read, says, ran)) = inl (text, conf, read, says, does conf ran)
+pub runs_map : (said : List ℕ → Result Conf ConfFault → Type 0) (r : Inflow) (untouched still : Type 0) (fault : Option RunFault) (Ran Did : Site → Type 0)
+    → (untouched → still) → ((site : Site) → Ran site → Did site) → Runs said r untouched fault Ran → Runs said r still fault Did
+runs_map said r untouched still fault Ran Did same does (inl (text, conf, read, says, ran)) = inl (text, conf, read, says, does (site_of text (options_in conf)) ran)
 runs_map said r untouched still fault Ran Did same does (inr (begun, left)) = inr (begun, same left)

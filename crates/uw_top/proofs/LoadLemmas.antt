@@ -1,6 +1,8 @@
 -- The packets of a load, one after the other, and their figures.
 use Rattle.std.proofs.Common.{◌≡◌, ℕ, ◌+◌, ◌*◌, ◌/◌, ◌%◌, ◌^◌, ◌<◌, ◌≤◌, ℤ, Bool, true, false, cond, ltb, List, [], ◌∷◌, ◌++◌, length, take, Option, None, Some, Result, Ok, Err, codes, refl, sym, ap, subst, lit<, lit≤, ◌∙◌, arith, length-append, leb, eqb, ◌&&◌}
 use Rattle.std.proofs.lemmas.List.{append-nil}
+use Rattle.std.proofs.lemmas.Option.{none-some}
+use Rattle.std.specs.Prelude.{option_map}
 use Rattle.std.specs.Fmt.{decimal}
 use Rattle.std.specs.List.{list_all, AllByRecursion}
 use Rattle.std.proofs.lemmas.Bool.{lt-ltb}
@@ -26,11 +28,12 @@ use Rattle.uw_ends.specs.declared.ends.RunFault.TheVariants as faults
 use Rattle.uw_top.specs.declared.load.Figures.{Figures}
 use Rattle.uw_top.specs.declared.server.Replied.{Replied}
 use Rattle.uw_outside.specs.Streams.{Outflow}
-use Rattle.uw_top.specs.Exchange.{Exchange, asked_by, broken_at, names_of, reply_of, refusal_of, IsAnswered}
-use Rattle.uw_top.specs.Pipe.{caches_from}
-use Rattle.uw_top.specs.PipeSteps.{RepliesTo}
+use Rattle.uw_session.specs.Exchange.{Exchange, IsAccepted, asked_by, broken_command, header_refusal, names_of}
+use Rattle.uw_top.specs.Pipe.{bad_packet_of}
+use Rattle.uw_top.specs.LoadSteps.{caches_from}
+use Rattle.uw_top.specs.Replying.{reply_of}
 use Rattle.uw_top.specs.Load.{LoadEndsBy, LoadRun, block_for, figures_from, figures_text, head_for, next_number, no_figures, packet_for, packets_from, variables_for, with_reply}
-use Rattle.uw_top.specs.LoadSteps.{AnswersNumber, IsLoaded, WritesText, number_after}
+use Rattle.uw_top.specs.LoadSteps.{AnswersNumber, IsLoaded, RepliesTo, WritesText, number_after}
 use Rattle.uw_top.proofs.Packets.{caches_from-push}
 
 -- ---- the block of a generated packet
@@ -82,6 +85,12 @@ variables_small x small =
 variables_short : (x : ℕ) → x < 2 ^ 31 → AreShort (texts_of_pairs (variables_for x))
 variables_short x small = short_from_small (texts_of_pairs (variables_for x)) (variables_small x small).each
 
+-- a generated block is short
+short_block : (x : ℕ) → x < 2 ^ 31 → length (block_for x) < 2 ^ 16
+short_block x small =
+    let few = variables_small x small in
+    omega (arith, few.few, length-array_of-small (texts_of_pairs (variables_for x)) few.each)
+
 -- a generated block is there
 pub block_is_there : (x : ℕ) → x < 2 ^ 31 → vars_block (variables_for x) ≡ None → ⊥
 block_is_there x small none =
@@ -96,38 +105,53 @@ block_is_there x small none =
 -- ---- the answer to a generated packet
 
 -- a command is never a block out of its grammar
-commanded_whole : (kind : Option Kind) (cache seconds : Option ℕ) (amount : Option ℤ) (key value : List ℕ) → broken_at (commanded kind cache seconds amount key value) ≡ None
+commanded_whole : (kind : Option Kind) (cache seconds : Option ℕ) (amount : Option ℤ) (key value : List ℕ) → broken_command (commanded kind cache seconds amount key value) ≡ None
 commanded_whole None cache seconds amount key value = refl
 commanded_whole (Some kind) None seconds amount key value = refl
 commanded_whole (Some kind) (Some cache) None amount key value = refl
 commanded_whole (Some kind) (Some cache) (Some ttl) None key value = refl
 commanded_whole (Some kind) (Some cache) (Some ttl) (Some by) key value = refl
 
-command_whole : (names : List (List ℕ)) (read : Result (List Pair) ℕ) (pairs : List Pair) → read ≡ Ok pairs → broken_at (command_block_ask names read) ≡ None
+command_whole : (names : List (List ℕ)) (read : Result (List Pair) ℕ) (pairs : List Pair) → read ≡ Ok pairs → broken_command (command_block_ask names read) ≡ None
 command_whole names read pairs e = rw e (commanded_whole _ _ _ _ _ _)
 
-generated_whole : (conf : Options) (x : ℕ) → x < 2 ^ 31 → broken_at (asked_by conf (head_for x) (block_for x)) ≡ None
+generated_whole : (conf : Options) (x : ℕ) → x < 2 ^ 31 → broken_command (asked_by conf (head_for x) (block_for x)) ≡ None
 generated_whole conf x small = command_whole (names_of conf) (vars_read (block_for x)) (variables_for x) (pairs_read (variables_for x) (variables_short x small))
+
+-- nothing that is said otherwise is nothing
+nothing_said : {X Y : Type 0} → (say : X → Y) (value : Option X) → None ≡ option_map say value → value ≡ None
+nothing_said say None none = refl
+nothing_said say (Some value) none = absurd (none-some (say value) none)
+
+-- a generated packet whose header is accepted is whole
+generated_is_whole : (conf : Options) (moment x : ℕ) → x < 2 ^ 31 → header_refusal conf (head_for x) ≡ None → IsAccepted conf (packet_for moment x)
+generated_is_whole conf moment x small accepted = record {
+  accepted = accepted;
+  fits = short_block x small;
+  size = refl;
+  grammar = generated_whole conf x small;
+  body = refl;
+}
 
 -- what replies to a packet that is answered answers it
 answers_it : (conf : Options) (caches after : List ListState) (x : Exchange) (result : Result Replied RunFault)
-    → IsAnswered conf x → RepliesTo conf caches after x result → AnswersNumber conf caches after x result
-answers_it conf caches after x (Ok replied) is r = (is, r.0, r.1, r.2)
-answers_it conf caches after x (Err (faults.BadPacket (bad.BadBlock at))) is r = absurd (cc (is.grammar, r))
-answers_it conf caches after x (Err (faults.BadPacket _)) is r = absurd r
-answers_it conf caches after x (Err faults.Memory) is r = tt
-answers_it conf caches after x (Err _) is r = absurd r
+    → IsAccepted conf x → broken_command (asked_by conf x.head x.block) ≡ None → RepliesTo conf caches after x result → AnswersNumber conf caches after x result
+answers_it conf caches after x (Ok replied) is whole r = (is, r.0, r.1, r.2)
+answers_it conf caches after x (Err (faults.BadPacket (bad.BadBlock at))) is whole r = absurd (none-some at (sym whole ∙ r))
+answers_it conf caches after x (Err (faults.BadPacket _)) is whole r = absurd r
+answers_it conf caches after x (Err faults.Memory) is whole r = tt
+answers_it conf caches after x (Err _) is whole r = absurd r
 
 -- the same for a packet that is the generated one by two equations
 pub answers_generated : (conf : Options) (caches after : List ListState) (moment x : ℕ) (head : Header) (block : List ℕ) (result : Result Replied RunFault)
-    → x < 2 ^ 31 → head ≡ head_for x → block ≡ block_for x → None ≡ refusal_of conf head
-    → RepliesTo conf caches after (record { moment = moment; head = head; block = block }) result
+    → x < 2 ^ 31 → head ≡ head_for x → block ≡ block_for x → None ≡ option_map bad_packet_of (header_refusal conf head)
+    → RepliesTo conf caches after (record { moment = moment; head = head; block = block; body = [] }) result
     → AnswersNumber conf caches after (packet_for moment x) result
 answers_generated conf caches after moment x head block result small made filled accepted r =
-    let same_head = subst (λ (h : Header). RepliesTo conf caches after (record { moment = moment; head = h; block = block }) result) made r in
-    let same = subst (λ (b : List ℕ). RepliesTo conf caches after (record { moment = moment; head = head_for x; block = b }) result) filled same_head in
-    let is : IsAnswered conf (packet_for moment x) = record { accepted = sym (rw made at accepted); size = refl; grammar = generated_whole conf x small } in
-    answers_it conf caches after (packet_for moment x) result is same
+    let same_head = subst (λ (h : Header). RepliesTo conf caches after (record { moment = moment; head = h; block = block; body = [] }) result) made r in
+    let same = subst (λ (b : List ℕ). RepliesTo conf caches after (record { moment = moment; head = head_for x; block = b; body = [] }) result) filled same_head in
+    let taken = subst (λ (h : Header). header_refusal conf h ≡ None) made (nothing_said bad_packet_of (header_refusal conf head) accepted) in
+    answers_it conf caches after (packet_for moment x) result (generated_is_whole conf moment x small taken) (generated_whole conf x small) same
 
 -- ---- packets, one after the other
 
@@ -180,7 +204,7 @@ one_loaded gave gave_more conf turned first number next held after f g clock mid
     let is = subst (λ (c : List ListState). AnswersNumber conf c after x (Ok replied)) s.caches numbered in
     record {
       moments = ms ++ moment ∷ [];
-      answered = subst (λ (ys : List Exchange). AllByRecursion (IsAnswered conf) ys) (sym pushed) (AllByRecursion-push (IsAnswered conf) xs x s.answered is.0);
+      answered = subst (λ (ys : List Exchange). AllByRecursion (IsAccepted conf) ys) (sym pushed) (AllByRecursion-push (IsAccepted conf) xs x s.answered is.0);
       told = gave_more clock mid later ms (moment ∷ []) s.told told;
       last = step ∙ ap next_number s.last ∙ sym (number_after-push first ms moment);
       caches = is.3 ∙ sym (ap (λ (ys : List Exchange). caches_from conf empty ys) pushed ∙ caches_from-push conf empty xs x);

@@ -2,8 +2,9 @@
 use Rattle.std.proofs.Common.{◌≡◌, List, [], ◌∷◌, ◌++◌, refl}
 use Rattle.uw_model.specs.ListState.{ListState}
 use Rattle.uw_conf.specs.declared.conf.Options.{Options}
-use Rattle.uw_top.specs.Exchange.{Exchange, reply_of}
-use Rattle.uw_top.specs.Pipe.{caches_from}
+use Rattle.uw_session.specs.Exchange.{Exchange}
+use Rattle.uw_top.specs.LoadSteps.{caches_from}
+use Rattle.uw_top.specs.Replying.{reply_of}
 
 -- the caches after packets and one more
 pub caches_from-push : (conf : Options) (caches : List ListState) (xs : List Exchange) (x : Exchange)

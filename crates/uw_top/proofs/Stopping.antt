@@ -1,103 +1,114 @@
--- A turn of `pipe`: why it was the last, or what it answered.
-use Rattle.std.proofs.Common.{◌≡◌, ℕ, ◌<◌, List, [], ◌∷◌, ◌++◌, length, take, Option, Some, Ok, Err, refl, ap, subst, arith, inl, inr, Bool}
+-- A turn of `pipe`: why it was the last, or what it served.
+use Rattle.std.proofs.Common.{◌≡◌, ℕ, List, [], ◌∷◌, ◌++◌, length, Option, None, Some, Ok, Err, refl, ap, sym, subst, arith, inl, inr, lit<, Bool, ◌∙◌}
+use Rattle.std.proofs.lemmas.List.{append-nil}
 use Rattle.uw_outside.specs.Faults.{Rose}
-use Rattle.uw_outside.specs.Streams.{Takes, Gives}
+use Rattle.uw_outside.specs.Streams.{Inflow, Outflow, Takes, Gives}
 use Rattle.uw_outside.proofs.Streams.{Takes-none, Gives-none}
-use Rattle.uw_packet.specs.declared.packet.Packet.{Packet}
-use Rattle.uw_packet.specs.Packet.{header_bytes}
-use Rattle.uw_outside.specs.Streams.{Inflow}
-use Rattle.uw_model.specs.ListState.{ListState}
-use Rattle.uw_conf.specs.declared.conf.Options.{Options}
-use Rattle.uw_ends.specs.declared.ends.BadPacket.TheVariants as bad
+use Rattle.uw_model.specs.Asks.{Asking, Led, desk_asks}
+use Rattle.uw_model.specs.declared.asks.Asked.{Asked}
 use Rattle.uw_ends.specs.declared.ends.Brief.{Brief}
 use Rattle.uw_ends.specs.declared.ends.RunFault.{RunFault}
 use Rattle.uw_ends.specs.declared.ends.RunFault.TheVariants as faults
-use Rattle.uw_outside.specs.Streams.{Outflow}
-use Rattle.uw_top.specs.Exchange.{Exchange, IsAnswered}
-use Rattle.uw_top.specs.Pipe.{EndsBy, brief_of}
-use Rattle.uw_top.specs.PipeSteps.{TakesPacket, AnswersPacket, Stops, Goes}
+use Rattle.uw_session.specs.declared.faults.Form.TheVariants as forms
+use Rattle.uw_session.specs.declared.faults.Refusal.TheVariants as refusals
+use Rattle.uw_session.specs.declared.faults.ServeFault.{ServeFault}
+use Rattle.uw_session.specs.declared.faults.ServeFault.TheVariants as serves
+use Rattle.uw_session.specs.declared.faults.Served.{Served}
+use Rattle.uw_session.specs.Exchange.{Exchange, Site}
+use Rattle.uw_session.specs.Serving.{Flow, Serves, exchange_of}
+use Rattle.uw_top.specs.Pipe.{EndsBy, Turn, bad_packet_of, brief_of, replied_by, unbounded}
+use Rattle.uw_top.specs.PipeSteps.{Goes, Stops, Turns, fault_of_serving}
 
--- a packet at a moment
-abbrev pub at_moment : ℕ → Packet → Exchange
-at_moment moment packet = record { moment = moment; head = packet.head; block = packet.block }
-
--- a sink that took nothing
-abbrev pub idle : Option (List ℕ) → ℕ → ℕ → Outflow
-idle taken k0 k1 = record { before = taken; now = taken; faults_before = k0; faults_now = k1 }
+-- one turn over a source, a sink and a desk, by a worker that never dies
+abbrev pub flow_of : Inflow → Outflow → (List Asking → ℕ → Type 0) → Flow
+flow_of src snk led = record { src = src; snk = snk; led = led; before = unbounded; now = unbounded }
 
 -- nothing was written, and the clock was asked once
-stopped : (conf : Options) (caches : List ListState) (r : Inflow) (taken : Option (List ℕ)) (k0 k1 moment : ℕ) (gave : List ℕ → Type 0) (bytes : List ℕ) (fault : Option RunFault)
-    → gave (moment ∷ []) → Takes r.before r.now bytes
-    → EndsBy conf (record { src = r; snk = idle taken k0 k1; count = 0; caches = caches; rest = bytes; part = []; late = moment ∷ [] }) fault
-    → Stops conf caches r (idle taken k0 k1) gave fault
-stopped conf caches r taken k0 k1 moment gave bytes fault told read ending =
-    record { moment = moment; rest = bytes; part = []; read = read; written = Gives-none taken; moments = told; ending = ending }
+stopped : (led : List Asking → ℕ → Type 0) (site : Site) (src : Inflow) (snk : Outflow) (moment : ℕ) (gave : List ℕ → Type 0) (bytes : List ℕ) (fault : Option RunFault)
+    → gave (moment ∷ []) → Takes src.before src.now bytes → Gives snk.before snk.now []
+    → EndsBy led site (record { src = src; snk = snk; count = 0; rest = bytes; part = []; late = moment ∷ [] }) fault
+    → Stops led site src snk gave fault
+stopped led site src snk moment gave bytes fault told read written ending =
+    record { moment = moment; rest = bytes; part = []; read = read; written = written; moments = told; ending = ending }
 
 -- there was no memory before anything was read
-pub no_memory : (conf : Options) (caches : List ListState) (left taken : Option (List ℕ)) (ended : Bool) (f0 f1 k0 k1 moment : ℕ) (gave : List ℕ → Type 0) → gave (moment ∷ [])
-    → Stops conf caches (record { before = left; now = left; ended = ended; faults_before = f0; faults_now = f1 }) (idle taken k0 k1) gave (Some faults.Memory)
-no_memory conf caches left taken ended f0 f1 k0 k1 moment gave told =
-    stopped conf caches (record { before = left; now = left; ended = ended; faults_before = f0; faults_now = f1 }) taken k0 k1 moment gave [] (Some faults.Memory) told (Takes-none left) (refl, omega arith)
+pub no_memory : (led : List Asking → ℕ → Type 0) (site : Site) (left taken : Option (List ℕ)) (ended : Bool) (f0 f1 k0 k1 moment : ℕ) (gave : List ℕ → Type 0) → gave (moment ∷ [])
+    → Stops led site (record { before = left; now = left; ended = ended; faults_before = f0; faults_now = f1 })
+    (record { before = taken; now = taken; faults_before = k0; faults_now = k1 }) gave (Some faults.Memory)
+no_memory led site left taken ended f0 f1 k0 k1 moment gave told =
+    stopped led site _ _ moment gave [] (Some faults.Memory) told (Takes-none left) (Gives-none taken) (inl (inl refl), refl, omega arith)
 
--- no packet was taken
-pub not_taken : (conf : Options) (caches : List ListState) (r : Inflow) (taken : Option (List ℕ)) (k0 k1 moment : ℕ) (gave : List ℕ → Type 0) (fault : RunFault)
-    → gave (moment ∷ []) → TakesPacket conf r (Err fault) → Stops conf caches r (idle taken k0 k1) gave (Some fault)
-not_taken conf caches r taken k0 k1 moment gave faults.ReadFault told t =
-    stopped conf caches r taken k0 k1 moment gave t.1.0 (Some faults.ReadFault) told t.1.1 (t.0, t.1.2, refl, refl)
-not_taken conf caches r taken k0 k1 moment gave (faults.Truncated got want) told t =
-    stopped conf caches r taken k0 k1 moment gave t.1.0 (Some (faults.Truncated got want)) told t.1.1 (t.1.2, refl, t.0, refl)
-not_taken conf caches r taken k0 k1 moment gave (faults.BadPacket packet) told t =
-    stopped conf caches r taken k0 k1 moment gave (header_bytes t.0) (Some (faults.BadPacket packet)) told t.2 (inl (t.0, t.1, refl, t.3), refl, refl)
-not_taken conf caches r taken k0 k1 moment gave faults.Memory told t =
-    stopped conf caches r taken k0 k1 moment gave t.0 (Some faults.Memory) told t.1 (refl, omega arith)
-not_taken conf caches r taken k0 k1 moment gave _ told t = absurd t
-
--- a packet that was taken was not answered
-pub not_answered : (conf : Options) (caches after : List ListState) (r : Inflow) (taken : Option (List ℕ)) (k0 k1 moment : ℕ) (gave : List ℕ → Type 0) (packet : Packet) (fault : RunFault)
-    → gave (moment ∷ []) → TakesPacket conf r (Ok (Some packet)) → AnswersPacket conf caches after (at_moment moment packet) (Err fault)
-    → Stops conf caches r (idle taken k0 k1) gave (Some fault)
-not_answered conf caches after r taken k0 k1 moment gave packet (faults.BadPacket (bad.BadBlock at)) told t broken =
-    stopped conf caches r taken k0 k1 moment gave (header_bytes packet.head ++ packet.block) (Some (faults.BadPacket (bad.BadBlock at))) told t.0
-    (inr (packet.head, packet.block, at, refl, t.1, t.2, broken, refl), refl, refl)
-not_answered conf caches after r taken k0 k1 moment gave packet (faults.BadPacket _) told t broken = absurd broken
-not_answered conf caches after r taken k0 k1 moment gave packet faults.Memory told t broken =
-    stopped conf caches r taken k0 k1 moment gave (header_bytes packet.head ++ packet.block) (Some faults.Memory) told t.0 (refl, omega arith)
-not_answered conf caches after r taken k0 k1 moment gave packet _ told t broken = absurd broken
-
--- a packet that was taken and answered is one that is answered
-is_answered : (conf : Options) (caches after : List ListState) (r : Inflow) (moment : ℕ) (packet : Packet) (written : List ℕ)
-    → TakesPacket conf r (Ok (Some packet)) → AnswersPacket conf caches after (at_moment moment packet) (Ok written) → IsAnswered conf (at_moment moment packet)
-is_answered conf caches after r moment packet written t a = record { accepted = t.1; size = t.2; grammar = a.2 }
-
--- the frame of a packet was not written whole
-pub not_written : (conf : Options) (caches after : List ListState) (r : Inflow) (w : Outflow) (moment n : ℕ) (gave : List ℕ → Type 0) (packet : Packet) (written : List ℕ)
-    → gave (moment ∷ []) → TakesPacket conf r (Ok (Some packet)) → AnswersPacket conf caches after (at_moment moment packet) (Ok written)
-    → n < length written → Gives w.before w.now (take n written) → Rose w.faults_before w.faults_now
-    → Stops conf caches r w gave (Some faults.WriteFault)
-not_written conf caches after r w moment n gave packet written told t a short gives rose = record {
+-- a request that was not served ended the run
+pub not_served : (led : List Asking → ℕ → Type 0) (site : Site) (src : Inflow) (snk : Outflow) (moment : ℕ) (gave : List ℕ → Type 0) (fault : ServeFault)
+    → gave (moment ∷ []) → Serves site forms.Framed moment (flow_of src snk led) (Err fault) → Stops led site src snk gave (fault_of_serving fault)
+not_served led site src snk moment gave serves.Nothing told s =
+    stopped led site src snk moment gave [] None told s.1.1 s.0 (refl, s.1.2, inl (lit< tt, refl, refl))
+not_served led site src snk moment gave (serves.Truncated got want) told s =
+    let bytes = s.1.2 in
+    stopped led site src snk moment gave bytes.0 (Some (faults.Truncated got want)) told bytes.1 s.0 (bytes.2, s.1.1, (lit< tt, refl, refl))
+not_served led site src snk moment gave (serves.TooBig size limit) told s =
+    let bytes = s.1.1 in
+    stopped led site src snk moment gave bytes.0 (Some (faults.BadPacket (bad_packet_of (refusals.TooBig size limit)))) told bytes.1 s.0
+    ((refusals.TooBig size limit, refl, bytes.2), (lit< tt, refl, refl))
+not_served led site src snk moment gave (serves.NoModifier m1 m2) told s =
+    let bytes = s.1.1 in
+    stopped led site src snk moment gave bytes.0 (Some (faults.BadPacket (bad_packet_of (refusals.NoModifier m1 m2)))) told bytes.1 s.0
+    ((refusals.NoModifier m1 m2, refl, bytes.2), (lit< tt, refl, refl))
+not_served led site src snk moment gave (serves.BadBlock at) told s =
+    let bytes = s.1.1 in
+    stopped led site src snk moment gave bytes.0 (Some (faults.BadPacket (bad_packet_of (refusals.BadBlock at)))) told bytes.1 s.0
+    ((refusals.BadBlock at, refl, bytes.2), (lit< tt, refl, refl))
+not_served led site src snk moment gave serves.BadLength told s =
+    let bytes = s.1.1 in
+    stopped led site src snk moment gave bytes.0 (Some (faults.BadPacket (bad_packet_of refusals.BadLength))) told bytes.1 s.0
+    ((refusals.BadLength, refl, bytes.2), (lit< tt, refl, refl))
+not_served led site src snk moment gave serves.ReadFault told s =
+    let bytes = s.1.2 in
+    stopped led site src snk moment gave bytes.0 (Some faults.ReadFault) told bytes.1 s.0 (s.1.1, inl ((lit< tt, refl, refl), bytes.2))
+not_served led site src snk moment gave (serves.Died whole done) told s =
+    let x = s.1.0 in
+    stopped led site src snk moment gave _ (Some faults.Memory) told s.1.1.2 s.0 (inr (x, s.1.1.1, refl), refl, omega arith)
+not_served led site src snk moment gave (serves.WriteFault done) told s = record {
   moment = moment;
-  rest = header_bytes packet.head ++ packet.block;
-  part = take n written;
-  read = t.0;
-  written = gives;
+  rest = _;
+  part = _;
+  read = s.taken.2;
+  written = s.part;
   moments = told;
   ending = (
-    rose,
-    (moment, refl, (at_moment moment packet, refl, refl, is_answered conf caches after r moment packet written t a, (n, subst (λ (b : List ℕ). n < length b) a.0 short, ap (take n) a.0))),
+    s.rose,
+    lit< tt,
+    record {
+      turn = record { packet = s.packet; asked = done; end = replied_by s.reply; writes = s.followed.1.0 };
+      is = record { whole = s.taken.1; course = s.followed.0 };
+      asks = subst (λ (m : ℕ). led (desk_asks m done ++ []) s.followed.1.0) (sym s.taken.0) s.followed.1.1;
+      moment = ap (λ (m : ℕ). m ∷ []) (sym s.taken.0);
+      read = refl;
+      written = (s.count, s.short, refl);
+    },
   );
 }
+not_served led site src snk moment gave (serves.Memory done) told s =
+    elim s.1 [
+      | inl before ↦ stopped led site src snk moment gave before.2.0 (Some faults.Memory) told before.2.1 s.0 (inl before.2.2, refl, omega arith)
+      | inr behind ↦ stopped led site src snk moment gave _ (Some faults.Memory) told behind.1.2 s.0 (inr (behind.0, behind.1.1, refl), refl, omega arith)
+    ]
 
--- a packet was answered
-pub goes : (conf : Options) (caches after : List ListState) (briefs briefs_now : List Brief) (r : Inflow) (w : Outflow) (moment : ℕ) (gave : List ℕ → Type 0) (packet : Packet) (written : List ℕ)
-    → gave (moment ∷ []) → TakesPacket conf r (Ok (Some packet)) → AnswersPacket conf caches after (at_moment moment packet) (Ok written)
-    → Gives w.before w.now written → briefs_now ≡ briefs ++ brief_of (at_moment moment packet) ∷ []
-    → Goes conf caches after briefs briefs_now r w gave
-goes conf caches after briefs briefs_now r w moment gave packet written told t a gives briefed = record {
-  packet = at_moment moment packet;
-  answered = is_answered conf caches after r moment packet written t a;
-  read = t.0;
-  written = subst (λ (b : List ℕ). Gives w.before w.now b) a.0 gives;
-  moments = told;
-  next = a.1;
-  briefs = briefed;
-}
+-- a request that was served
+pub served : (led : List Asking → ℕ → Type 0) (site : Site) (src : Inflow) (snk : Outflow) (moment : ℕ) (gave : List ℕ → Type 0) (briefs briefs_now : List Brief) (s : Served)
+    → gave (moment ∷ []) → Serves site forms.Framed moment (flow_of src snk led) (Ok s)
+    → briefs_now ≡ briefs ++ record { moment = moment; died = None } ∷ []
+    → Goes led site briefs briefs_now src snk gave
+served led site src snk moment gave briefs briefs_now s told is briefed =
+    let packet = exchange_of s is.body in
+    let same : s.moment ≡ moment = is.taken.0 in
+    record {
+      turn = record { packet = packet; asked = s.asks; end = replied_by s.reply; writes = is.followed.1.0 };
+      is = record { whole = is.taken.1; course = is.followed.0 };
+      asks = subst (λ (m : ℕ). led (desk_asks m s.asks ++ []) is.followed.1.0) (sym same) is.followed.1.1;
+      allowed = is.followed.1.2;
+      read = is.taken.2;
+      written = is.written;
+      moments = subst (λ (m : ℕ). gave (m ∷ [])) (sym same) told;
+      briefs = briefed ∙ ap (λ (m : ℕ). briefs ++ record { moment = m; died = None } ∷ []) (sym same);
+    }

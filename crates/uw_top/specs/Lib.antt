@@ -1,5 +1,5 @@
-pub mod Exchange
 pub mod Pipe
+pub mod Replying
 pub mod Load
 pub mod Run
 pub mod PipeSteps

@@ -1,5 +1,5 @@
 -- The command `load`: packets that a generator makes, and the figures of their replies (own rule).
-use Rattle.std.specs.Prelude.{◌≡◌, ℕ, ◌+◌, ◌*◌, ◌/◌, ◌%◌, ◌^◌, ◌==◌, ◌<◌, ◌≤◌, nat_lt, nat_le, ◌&&◌, if◌then◌else◌, List, [], ◌∷◌, ◌++◌, length, take, codes, Option, None, Some}
+use Rattle.std.specs.Prelude.{◌≡◌, ℕ, ◌+◌, ◌*◌, ◌/◌, ◌%◌, ◌^◌, ◌==◌, ◌<◌, ◌≤◌, nat_lt, nat_le, ◌&&◌, if◌then◌else◌, List, [], ◌∷◌, ◌++◌, length, take, codes, Option, None, Some, option_map}
 use Rattle.std.specs.List.{AllByRecursion}
 use Rattle.std.specs.Fmt.{decimal}
 use Rattle.uw_base.specs.declared.variables.Pair.{Pair}
@@ -16,7 +16,9 @@ use Rattle.uw_ends.specs.declared.ends.RunFault.{RunFault}
 use Rattle.uw_ends.specs.declared.ends.RunFault.TheVariants as faults
 use Rattle.uw_top.specs.declared.load.Figures.{Figures}
 use Rattle.uw_outside.specs.Streams.{Outflow}
-use Rattle.uw_top.specs.Exchange.{Exchange, reply_of, refusal_of, IsAnswered}
+use Rattle.uw_session.specs.Exchange.{Exchange, IsAccepted, header_refusal}
+use Rattle.uw_top.specs.Pipe.{bad_packet_of}
+use Rattle.uw_top.specs.Replying.{reply_of}
 
 -- the next number of the generator
 abbrev pub next_number : ℕ → ℕ
@@ -50,7 +52,7 @@ head_for x = record { m1 = 111; size = length (block_for x); m2 = 200 }
 
 -- the packet that a number makes, at a moment
 abbrev pub packet_for : ℕ → ℕ → Exchange
-packet_for moment x = record { moment = moment; head = head_for x; block = block_for x }
+packet_for moment x = record { moment = moment; head = head_for x; block = block_for x; body = [] }
 
 -- the first packets of a load, one for each moment
 abbrev pub packets_from : ℕ → List ℕ → List Exchange
@@ -113,7 +115,7 @@ LoadEndsBy conf e (Some faults.WriteFault) =
     × ((n : ℕ) × (n < length (load_text conf e.first e.moments)) × (e.part ≡ take n (load_text conf e.first e.moments)))
 LoadEndsBy conf e (Some (faults.BadPacket packet)) =
     (length e.moments < e.count) × (e.part ≡ [])
-    × ((moment : ℕ) × (x : Exchange) × (e.late ≡ moment ∷ []) × (packets_from e.first (e.moments ++ e.late) ≡ packets_from e.first e.moments ++ x ∷ []) × (refusal_of conf x.head ≡ Some packet))
+    × ((moment : ℕ) × (x : Exchange) × (e.late ≡ moment ∷ []) × (packets_from e.first (e.moments ++ e.late) ≡ packets_from e.first e.moments ++ x ∷ []) × (option_map bad_packet_of (header_refusal conf x.head) ≡ Some packet))
 LoadEndsBy conf e (Some faults.Memory) = (e.part ≡ []) × (length e.late ≤ 1)
 LoadEndsBy conf e (Some _) = ⊥
 
@@ -122,7 +124,7 @@ pub record LoadRun (conf : Options) (first count : ℕ) (snk : Outflow) (gave : 
   pub moments : List ℕ
   pub late : List ℕ
   pub part : List ℕ
-  pub answered : AllByRecursion (IsAnswered conf) (packets_from first moments)
+  pub answered : AllByRecursion (IsAccepted conf) (packets_from first moments)
   pub few : length moments ≤ count
   pub told : gave (moments ++ late)
   pub written : Gives snk.before snk.now part

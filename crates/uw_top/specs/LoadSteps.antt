@@ -1,25 +1,41 @@
 -- What the parts of a load do.
-use Rattle.std.specs.Prelude.{◌≡◌, ℕ, ◌+◌, ◌*◌, ◌<◌, ◌≤◌, ◌^◌, List, [], ◌∷◌, length, take, Option, None, Some, Result, Ok, Err}
+use Rattle.std.specs.Prelude.{◌≡◌, ℕ, ◌+◌, ◌*◌, ◌<◌, ◌≤◌, ◌^◌, List, [], ◌∷◌, length, take, Option, None, Some, option_map, Result, Ok, Err}
 use Rattle.std.specs.List.{AllByRecursion}
 use Rattle.uw_outside.specs.Faults.{Rose}
 use Rattle.uw_outside.specs.Streams.{Gives}
 use Rattle.uw_model.specs.ListState.{ListState}
 use Rattle.uw_model.specs.Caches.{empty_caches}
 use Rattle.uw_conf.specs.declared.conf.Options.{Options}
+use Rattle.uw_ends.specs.declared.ends.BadPacket.TheVariants as bad
 use Rattle.uw_ends.specs.declared.ends.RunFault.{RunFault}
 use Rattle.uw_ends.specs.declared.ends.RunFault.TheVariants as faults
 use Rattle.uw_top.specs.declared.load.Figures.{Figures}
 use Rattle.uw_top.specs.declared.server.Replied.{Replied}
 use Rattle.uw_outside.specs.Streams.{Outflow}
-use Rattle.uw_top.specs.Exchange.{Exchange, reply_of, refusal_of, IsAnswered}
-use Rattle.uw_top.specs.Pipe.{caches_from}
+use Rattle.uw_session.specs.Exchange.{Exchange, IsAccepted, broken_command, header_refusal, asked_by}
+use Rattle.uw_top.specs.Pipe.{bad_packet_of}
+use Rattle.uw_top.specs.Replying.{reply_of}
 use Rattle.uw_top.specs.Load.{figures_from, next_number, no_figures, packets_from}
+
+-- the caches after packets of commands
+abbrev pub caches_from : Options → List ListState → List Exchange → List ListState
+caches_from conf caches [] = caches
+caches_from conf caches (x ∷ xs) = caches_from conf (reply_of conf caches x).caches xs
+
+-- a command's packet was answered by its reply, and the caches are those after it; or its block is out of its grammar; or there was no memory
+abbrev pub RepliesTo : Options → List ListState → List ListState → Exchange → Result Replied RunFault → Type 0
+RepliesTo conf caches after x (Ok replied) =
+    (replied.text ≡ (reply_of conf caches x).text) × (replied.answer ≡ (reply_of conf caches x).answer) × (after ≡ (reply_of conf caches x).caches)
+    × (broken_command (asked_by conf x.head x.block) ≡ None)
+RepliesTo conf caches after x (Err (faults.BadPacket (bad.BadBlock at))) = broken_command (asked_by conf x.head x.block) ≡ Some at
+RepliesTo conf caches after x (Err faults.Memory) = Unit {0}
+RepliesTo conf caches after x (Err _) = ⊥
 
 -- a packet was answered, or its header is refused, or there was no memory
 abbrev pub AnswersNumber : Options → List ListState → List ListState → Exchange → Result Replied RunFault → Type 0
 AnswersNumber conf caches after x (Ok replied) =
-    IsAnswered conf x × (replied.text ≡ (reply_of conf caches x).text) × (replied.answer ≡ (reply_of conf caches x).answer) × (after ≡ (reply_of conf caches x).caches)
-AnswersNumber conf caches after x (Err (faults.BadPacket packet)) = refusal_of conf x.head ≡ Some packet
+    IsAccepted conf x × (replied.text ≡ (reply_of conf caches x).text) × (replied.answer ≡ (reply_of conf caches x).answer) × (after ≡ (reply_of conf caches x).caches)
+AnswersNumber conf caches after x (Err (faults.BadPacket packet)) = option_map bad_packet_of (header_refusal conf x.head) ≡ Some packet
 AnswersNumber conf caches after x (Err faults.Memory) = Unit {0}
 AnswersNumber conf caches after x (Err _) = ⊥
 
@@ -45,7 +61,7 @@ number_after x (moment ∷ moments) = number_after (next_number x) moments
 -- the packets of a load answered so far, one for each moment: the number of the last, and the caches and the figures after them
 pub record IsLoaded (conf : Options) (first number : ℕ) (held : List ListState) (found : Figures) (gave : List ℕ → Type 0) (served : ℕ) : Type 0 where
   pub moments : List ℕ
-  pub answered : AllByRecursion (IsAnswered conf) (packets_from first moments)
+  pub answered : AllByRecursion (IsAccepted conf) (packets_from first moments)
   pub told : gave moments
   pub last : number ≡ number_after first moments
   pub caches : held ≡ caches_from conf (empty_caches conf.caches) (packets_from first moments)

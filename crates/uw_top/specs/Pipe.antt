@@ -1,122 +1,195 @@
 -- The machine of `pipe`: packet after packet, each answered by its frame, up to the end of the input or the first fault.
-use Rattle.std.specs.Prelude.{◌≡◌, ℕ, ◌^◌, ◌<◌, ◌≤◌, ◌⊎◌, nat_lt, if◌then◌else◌, List, [], ◌∷◌, ◌++◌, length, take, map, Option, None, Some}
-use Rattle.std.specs.List.{flat_map, AllByRecursion}
+use Rattle.std.specs.Prelude.{◌≡◌, ℕ, ◌<◌, ◌≤◌, ◌⊎◌, Bool, true, false, List, [], ◌∷◌, ◌++◌, length, take, map, Option, None, Some, IsSome, option_map}
+use Rattle.std.specs.List.{flat_map}
 use Rattle.uw_outside.specs.Faults.{Rose}
-use Rattle.uw_outside.specs.Streams.{Takes, Gives}
-use Rattle.uw_packet.specs.declared.packet.Header.{Header}
-use Rattle.uw_packet.specs.Packet.{header_bytes}
-use Rattle.uw_outside.specs.Streams.{Inflow}
+use Rattle.uw_outside.specs.Lives.{Spends}
+use Rattle.uw_outside.specs.Streams.{Inflow, Outflow, Takes, Gives}
 use Rattle.uw_packet.specs.Reads.{IsOver}
-use Rattle.uw_model.specs.ListState.{ListState}
-use Rattle.uw_model.specs.Caches.{empty_caches}
-use Rattle.uw_conf.specs.declared.conf.Options.{Options}
-use Rattle.uw_ends.specs.declared.ends.BadPacket.{BadPacket}
+use Rattle.uw_model.specs.declared.asks.AskAnswer.{AskAnswer}
+use Rattle.uw_model.specs.declared.asks.Asked.{Asked}
+use Rattle.uw_model.specs.Asks.{AskEnd, Asking, answered, died_absent, died_whole, no_memory, desk_asks}
+use Rattle.uw_model.specs.Caches.{Lists, LeadsLists, empty_caches}
+use Rattle.uw_chain.specs.Courses.{Course, Unfolds, asking, ended}
 use Rattle.uw_ends.specs.declared.ends.Brief.{Brief}
 use Rattle.uw_ends.specs.declared.ends.RunFault.{RunFault}
-use Rattle.uw_ends.specs.declared.ends.BadPacket.TheVariants as bad
 use Rattle.uw_ends.specs.declared.ends.RunFault.TheVariants as faults
-use Rattle.uw_outside.specs.Streams.{Outflow}
-use Rattle.uw_top.specs.Exchange.{Exchange, packet_bytes, refusal_of, broken_at, asked_by, reply_of, frame_of, IsAnswered}
+use Rattle.uw_ends.specs.declared.ends.BadPacket.{BadPacket}
+use Rattle.uw_ends.specs.declared.ends.BadPacket.TheVariants as bad
+use Rattle.uw_conf.specs.declared.conf.Options.{Options}
+use Rattle.uw_session.specs.declared.faults.Refusal.{Refusal}
+use Rattle.uw_session.specs.declared.faults.Refusal.TheVariants as refusals
+use Rattle.uw_session.specs.Exchange.{Exchange, IsAccepted, Site, course_of_site, exchange_bytes, frame}
+use Rattle.uw_session.specs.Serving.{IsBegun, IsRefused, IsSwallowed, IsTruncated}
 
 -- the most packets of a run
 abbrev pub most_packets : ℕ
 most_packets = 1000000
 
--- the packets as they came
-abbrev pub bytes_of : List Exchange → List ℕ
-bytes_of xs = flat_map packet_bytes xs
+-- ---- turns
 
--- the frames of packets, the caches being these at first
-abbrev pub frames_from : Options → List ListState → List Exchange → List ℕ
-frames_from conf caches [] = []
-frames_from conf caches (x ∷ xs) = frame_of conf caches x ++ frames_from conf (reply_of conf caches x).caches xs
+-- how a turn ended: its reply was told; or its worker died in an ask, which ended so
+pub data TurnEnd : Type 0 where
+  replied_by : List ℕ → TurnEnd
+  died_in : Asking → TurnEnd
 
--- the caches after packets
-abbrev pub caches_from : Options → List ListState → List Exchange → List ListState
-caches_from conf caches [] = caches
-caches_from conf caches (x ∷ xs) = caches_from conf (reply_of conf caches x).caches xs
+-- a packet that was served in its turn: its asks that were answered, how it ended, and the word writes that were made for it
+pub record Turn : Type 0 where
+  pub packet : Exchange
+  pub asked : List Asked
+  pub end : TurnEnd
+  pub writes : ℕ
 
--- the moments of packets
-abbrev pub moments_of : List Exchange → List ℕ
-moments_of xs = map (λ x. x.moment) xs
+-- an ask in which a worker died counts where it is whole
+abbrev pub is_whole_death : AskEnd → Option Bool
+is_whole_death (answered answer) = None
+is_whole_death (died_whole answer) = Some true
+is_whole_death died_absent = Some false
+is_whole_death no_memory = None
 
--- a brief says when its packet was answered, and that nothing died
-abbrev pub brief_of : Exchange → Brief
-brief_of x = record { moment = x.moment; died = None }
+-- the asks of a turn, with the one in which its worker died
+abbrev pub asks_of_turn : Turn → List Asking
+asks_of_turn t = desk_asks t.packet.moment t.asked ++ last_of t.end
+  where
+    last_of : TurnEnd → List Asking
+    last_of (replied_by reply) = []
+    last_of (died_in ask) = ask ∷ []
 
--- bytes that the end of the input cut: inside a header, or inside the block of a header that is not refused
-abbrev pub IsTruncated : Options → List ℕ → ℕ → ℕ → Type 0
-IsTruncated conf bytes got want =
-    ((want ≡ 4) × (1 ≤ got) × (got < 4) × (length bytes ≡ got))
-    ⊎ ((head : Header) × (block : List ℕ) × (bytes ≡ header_bytes head ++ block) × (refusal_of conf head ≡ None) × (want ≡ head.size) × (got < want) × (length block ≡ got))
+-- whether the ask in which a worker died counts, if it died
+abbrev pub death_of : TurnEnd → Option Bool
+death_of (replied_by reply) = None
+death_of (died_in ask) = is_whole_death ask.end
 
--- bytes that a packet may begin with, which is not whole yet: less than a header, or a header that is not refused and less than its block
-abbrev pub IsBegun : Options → List ℕ → Type 0
-IsBegun conf bytes =
-    (length bytes < 4) ⊎ ((head : Header) × (block : List ℕ) × (bytes ≡ header_bytes head ++ block) × (refusal_of conf head ≡ None) × (length block < head.size))
+-- the last byte of the frame of a death: 1 where the ask counts, else 0
+abbrev pub death_byte : Option Bool → ℕ
+death_byte (Some true) = 1
+death_byte _ = 0
 
--- bytes whose first packet is refused: by its header alone, or by its whole block
-abbrev pub IsRefused : Options → List ℕ → BadPacket → Type 0
-IsRefused conf bytes packet =
-    ((head : Header) × (head.size < 2 ^ 16) × (bytes ≡ header_bytes head) × (refusal_of conf head ≡ Some packet))
-    ⊎ ((head : Header) × (block : List ℕ) × (at : ℕ) × (bytes ≡ header_bytes head ++ block) × (refusal_of conf head ≡ None) × (length block ≡ head.size)
-    × (broken_at (asked_by conf head block) ≡ Some at) × (packet ≡ bad.BadBlock at))
+-- the frame of a turn: its reply behind its length; or that its worker died
+abbrev pub frame_of_end : TurnEnd → List ℕ
+frame_of_end (replied_by reply) = frame reply
+frame_of_end (died_in ask) = 255 ∷ 255 ∷ 255 ∷ 255 ∷ death_byte (is_whole_death ask.end) ∷ []
 
--- bytes that are a packet, of whose frame just these first bytes were written
-abbrev pub IsUnwritten : Options → List ListState → ℕ → List ℕ → List ℕ → Type 0
-IsUnwritten conf caches moment bytes part =
-    (x : Exchange) × (x.moment ≡ moment) × (bytes ≡ packet_bytes x) × IsAnswered conf x
-    × ((n : ℕ) × (n < length (frame_of conf caches x)) × (part ≡ take n (frame_of conf caches x)))
+-- behind these asks of a course stands the end of a turn: its reply; or the next ask, in which the worker died
+abbrev pub EndsCourse : Course (List ℕ) → ℕ → List Asked → TurnEnd → Type 0
+EndsCourse course moment asked (replied_by reply) = Unfolds course asked (ended reply)
+EndsCourse course moment asked (died_in ask) =
+    (ask.moment ≡ moment) × IsSome (is_whole_death ask.end) × ((more : AskAnswer → Course (List ℕ)) × Unfolds course asked (asking ask.ask more))
 
--- how the packets of a run came to their end
+-- a turn of a site: its packet is whole, and its asks are the next ones of the packet, each after the answers before it, up to its end
+pub record IsTurn (site : Site) (t : Turn) : Type 0 where
+  pub whole : IsAccepted site.options t.packet
+  pub course : EndsCourse (course_of_site site t.packet) t.packet.moment t.asked t.end
+
+-- what a turn leaves of a worker's allowances: its word writes are counted; behind a death, which came in place of the next word write, the next allowance begins
+abbrev pub LeavesAllowed : TurnEnd → Option (List ℕ) → ℕ → Option (List ℕ) → Type 0
+LeavesAllowed (replied_by reply) before writes after = Spends before after writes
+LeavesAllowed (died_in ask) before writes after = before ≡ option_map (λ rest. writes ∷ rest) after
+
+-- turns led from a state of the desk to another, where `leads` says which asks lead from which state to which, and left so much of a worker's allowances
+abbrev pub TurnsLead : {S : Type 0} → (S → S → List Asking → ℕ → Type 0) → Site → S → Option (List ℕ) → List Turn → S → Option (List ℕ) → Type 0
+TurnsLead leads site state allowed [] after left = (after ≡ state) × (left ≡ allowed)
+TurnsLead {S} leads site state allowed (t ∷ turns) after left =
+    IsTurn site t
+    × ((middle : S) × (still : Option (List ℕ)) × leads state middle (asks_of_turn t) t.writes × LeavesAllowed t.end allowed t.writes still × TurnsLead leads site middle still turns after left)
+
+-- the allowances of a worker that never dies
+abbrev pub unbounded : Option (List ℕ)
+unbounded = Some []
+
+-- which asks lead plain lists from which to which, whatever the number of word writes
+abbrev pub list_leads : Lists → Lists → List Asking → ℕ → Type 0
+list_leads before now asked writes = LeadsLists before asked now
+
+-- the empty lists of a site's caches
+abbrev pub empty_lists : Options → Lists
+empty_lists options = record { caches = empty_caches options.caches }
+
+-- the bytes of turns as they came
+abbrev pub bytes_of : List Turn → List ℕ
+bytes_of turns = flat_map (λ (t : Turn). exchange_bytes t.packet) turns
+
+-- the frames of turns
+abbrev pub frames_of : List Turn → List ℕ
+frames_of turns = flat_map (λ (t : Turn). frame_of_end t.end) turns
+
+-- the moments of turns
+abbrev pub moments_of : List Turn → List ℕ
+moments_of turns = map (λ (t : Turn). t.packet.moment) turns
+
+-- a brief says when its packet was served, and whether its last ask counts where its worker died
+abbrev pub brief_of : Turn → Brief
+brief_of t = record { moment = t.packet.moment; died = death_of t.end }
+
+-- ---- the end of a run
+
+-- the fault of a run that a refused packet is
+abbrev pub bad_packet_of : Refusal → BadPacket
+bad_packet_of (refusals.TooBig size limit) = bad.TooBig size limit
+bad_packet_of (refusals.NoModifier m1 m2) = bad.NoModifier m1 m2
+bad_packet_of (refusals.BadBlock at) = bad.BadBlock at
+bad_packet_of refusals.BadLength = bad.BadLength
+
+-- how the turns of a run came to their end
 pub record Ending : Type 0 where
   -- the source and the sink in this run
   pub src : Inflow
   pub snk : Outflow
-  -- how many packets were answered, and the caches after them
+  -- how many packets were served
   pub count : ℕ
-  pub caches : List ListState
   -- what was read behind them, what was written behind their frames, and the moments given behind theirs
   pub rest : List ℕ
   pub part : List ℕ
   pub late : List ℕ
 
--- the clock was asked once more, unless all packets of a run were answered
-abbrev pub IsAskedOnce : Ending → Type 0
-IsAskedOnce e = length e.late ≡ (if nat_lt e.count most_packets then 1 else 0)
+-- fewer packets than the most were served, and the clock was asked once more; nothing was written behind their frames
+abbrev pub IsBelowMost : Ending → Type 0
+IsBelowMost e = (e.count < most_packets) × (length e.late ≡ 1) × (e.part ≡ [])
 
--- why the run ended
-abbrev pub EndsBy : Options → Ending → Option RunFault → Type 0
-EndsBy conf e None = (e.rest ≡ []) × (e.part ≡ []) × IsOver e.src × IsAskedOnce e
-EndsBy conf e (Some faults.ReadFault) = Rose e.src.faults_before e.src.faults_now × IsBegun conf e.rest × (e.part ≡ []) × IsAskedOnce e
-EndsBy conf e (Some faults.WriteFault) =
-    Rose e.snk.faults_before e.snk.faults_now × ((moment : ℕ) × (e.late ≡ moment ∷ []) × IsUnwritten conf e.caches moment e.rest e.part)
-EndsBy conf e (Some (faults.Truncated got want)) = IsTruncated conf e.rest got want × (e.part ≡ []) × IsOver e.src × IsAskedOnce e
-EndsBy conf e (Some (faults.BadPacket packet)) = IsRefused conf e.rest packet × (e.part ≡ []) × IsAskedOnce e
-EndsBy conf e (Some faults.Memory) = (e.part ≡ []) × (length e.late ≤ 1)
-EndsBy conf e (Some faults.TooMany) = (e.count ≡ most_packets) × (length e.rest ≡ 1) × (e.part ≡ []) × (e.late ≡ [])
-EndsBy conf e (Some _) = ⊥
+-- the most packets were served, and the clock was not asked again; nothing was written behind their frames
+abbrev pub IsAtMost : Ending → Type 0
+IsAtMost e = (e.count ≡ most_packets) × (e.late ≡ []) × (e.part ≡ [])
 
--- what a run took from its source, wrote into its sink and was told by its clock, and how it ended: these packets were answered
-pub record PipeRun (conf : Options) (src : Inflow) (snk : Outflow) (gave : List ℕ → Type 0) (told : List Brief) (fault : Option RunFault) : Type 0 where
-  pub packets : List Exchange
+-- a packet was served in its turn, and only a part of its frame could be written; its asks led on from the last state of the desk
+pub record IsCutTurn (led : List Asking → ℕ → Type 0) (site : Site) (e : Ending) : Type 0 where
+  pub turn : Turn
+  pub is : IsTurn site turn
+  pub asks : led (asks_of_turn turn) turn.writes
+  pub moment : e.late ≡ turn.packet.moment ∷ []
+  pub read : e.rest ≡ exchange_bytes turn.packet
+  pub written : (n : ℕ) × (n < length (frame_of_end turn.end)) × (e.part ≡ take n (frame_of_end turn.end))
+
+-- want of memory takes no more than one packet with it
+abbrev pub TakesOnePacket : Options → List ℕ → Type 0
+TakesOnePacket options bytes = IsSwallowed options bytes ⊎ ((x : Exchange) × IsAccepted options x × (bytes ≡ exchange_bytes x))
+
+-- why a run ended, where `led` says which asks lead on from the last state of the desk
+abbrev pub EndsBy : (List Asking → ℕ → Type 0) → Site → Ending → Option RunFault → Type 0
+EndsBy led site e None = (e.rest ≡ []) × IsOver e.src × (IsBelowMost e ⊎ IsAtMost e)
+EndsBy led site e (Some faults.ReadFault) =
+    Rose e.src.faults_before e.src.faults_now × ((IsBelowMost e × IsBegun site.options e.rest) ⊎ (IsAtMost e × (e.rest ≡ [])))
+EndsBy led site e (Some faults.WriteFault) = Rose e.snk.faults_before e.snk.faults_now × (e.count < most_packets) × IsCutTurn led site e
+EndsBy led site e (Some (faults.Truncated got want)) = IsTruncated site.options e.rest got want × IsOver e.src × IsBelowMost e
+EndsBy led site e (Some (faults.BadPacket packet)) = ((refusal : Refusal) × (packet ≡ bad_packet_of refusal) × IsRefused site.options e.rest refusal) × IsBelowMost e
+EndsBy led site e (Some faults.Memory) = TakesOnePacket site.options e.rest × (e.part ≡ []) × (length e.late ≤ 1)
+EndsBy led site e (Some faults.TooMany) = (length e.rest ≡ 1) × IsAtMost e
+EndsBy led site e (Some _) = ⊥
+
+-- what a run took from its source, wrote into its sink and was told by its clock, and how it ended, where `leads` says which asks lead the desk from which state to
+-- which, and the desk begins in a state
+pub record PipeRun {S : Type 0} (leads : S → S → List Asking → ℕ → Type 0) (start : S) (allowed : Option (List ℕ)) (site : Site) (src : Inflow) (snk : Outflow)
+    (gave : List ℕ → Type 0) (told : List Brief) (fault : Option RunFault) : Type 0 where
+  -- the packets that were served, and the states of the desk behind them and at the end
+  pub turns : List Turn
+  pub behind : S
+  pub last : S
+  pub left : Option (List ℕ)
   pub rest : List ℕ
   pub part : List ℕ
   pub late : List ℕ
-  pub answered : AllByRecursion (IsAnswered conf) packets
-  pub few : length packets ≤ most_packets
-  pub read : Takes src.before src.now (bytes_of packets ++ rest)
-  pub written : Gives snk.before snk.now (frames_from conf (empty_caches conf.caches) packets ++ part)
-  pub moments : gave (moments_of packets ++ late)
-  pub briefs : told ≡ map brief_of packets
-  pub ending : EndsBy conf
-      (record {
-        src = src;
-        snk = snk;
-        count = length packets;
-        caches = caches_from conf (empty_caches conf.caches) packets;
-        rest = rest;
-        part = part;
-        late = late;
-      })
-      fault
+  pub passed : TurnsLead leads site start allowed turns behind left
+  pub few : length turns ≤ most_packets
+  pub read : Takes src.before src.now (bytes_of turns ++ rest)
+  pub written : Gives snk.before snk.now (frames_of turns ++ part)
+  pub moments : gave (moments_of turns ++ late)
+  pub briefs : told ≡ map brief_of turns
+  pub ending : EndsBy (leads behind last) site (record { src = src; snk = snk; count = length turns; rest = rest; part = part; late = late }) fault

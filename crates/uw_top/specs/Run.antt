@@ -10,7 +10,12 @@ use Rattle.uw_conf.specs.declared.conf.ConfKind.TheVariants as kinds
 use Rattle.uw_conf.specs.declared.conf.ConfError.TheVariants as errors
 use Rattle.uw_conf.specs.Configuration.{most_text_bytes}
 use Rattle.uw_conf.specs.Reading.{refused_at}
-use Rattle.uw_conf.specs.Given.{ReadsConf}
+use Rattle.std.specs.Str.Lines.{lines}
+use Rattle.uw_rules.specs.Rules.{place_of_label, table_of}
+use Rattle.uw_conf.specs.declared.conf.Options.{Options}
+use Rattle.uw_conf.specs.Routes.{cache_names_of, rule_lines_of}
+use Rattle.uw_conf.specs.Given.{ReadsConf, options_in}
+use Rattle.uw_session.specs.Exchange.{Site}
 use Rattle.uw_ends.specs.declared.words.Command.{Command}
 use Rattle.uw_ends.specs.declared.words.Command.TheVariants as commands
 use Rattle.uw_ends.specs.declared.ends.RunFault.{RunFault}
@@ -50,8 +55,16 @@ IsNotBegun said r (Some faults.ReadFault) = Rose r.faults_before r.faults_now ×
 IsNotBegun said r (Some faults.Memory) = (text : List ℕ) × Takes r.before r.now text × (length text ≤ most_text_bytes + 1)
 IsNotBegun said r _ = ⊥
 
+-- the site of a text that says these options: its rules as they are written, with the names of its caches and the places of its labels
+abbrev pub site_of : List ℕ → Options → Site
+site_of text options = record {
+  options = options;
+  naming = record { names = cache_names_of (lines text); labels = place_of_label (rule_lines_of (lines text)) };
+  rules = table_of (rule_lines_of (lines text));
+}
+
 -- a command over the configuration that a text says, of whose run this holds; or it did not begin, and left all else as it was
-abbrev pub Runs : (List ℕ → Result Conf ConfFault → Type 0) → Inflow → Type 0 → Option RunFault → (Conf → Type 0) → Type 0
+abbrev pub Runs : (List ℕ → Result Conf ConfFault → Type 0) → Inflow → Type 0 → Option RunFault → (Site → Type 0) → Type 0
 Runs said r untouched fault Ran =
-    ((text : List ℕ) × (conf : Conf) × ReadsText r text × said text (Ok conf) × Ran conf)
+    ((text : List ℕ) × (conf : Conf) × ReadsText r text × said text (Ok conf) × Ran (site_of text (options_in conf)))
     ⊎ (IsNotBegun said r fault × untouched)

@@ -1,6 +1,8 @@
 // The configuration of a run, read from a source of its own.
 ghost use Rattle.std.specs.Prelude.{◌≡◌, ◌<◌, ◌^◌, ℕ, List, length, IfOk, Ok};
 ghost use Rattle.uw_outside.specs.Streams.{inflow};
+ghost use Rattle.uw_rules.specs.CacheNumbers.{AskCachesBelow};
+ghost use Rattle.uw_rules.specs.Compiled.{rules_of};
 ghost use Rattle.uw_conf.specs.Given.{ReadsConf};
 ghost use Rattle.uw_conf.specs.Sound.{AreCaches};
 ghost use Rattle.uw_top.specs.Run.{IsSaid, IsSaidWithACache};
@@ -23,6 +25,7 @@ pub fn configuration<F: Source, M: Patterns>(
 ) -> Result<Conf, RunFault>
     ensures gives { GivesConf (IsSaid (M.faults make.old) (M.faults make.new)) (inflow F.left F.ended F.faults conf.old conf.new) result }
     ensures caches { IfOk result (λ c. AreCaches c.caches) }
+    ensures routes { IfOk result (λ c. AskCachesBelow (length c.caches) (rules_of c.routes)) }
 {
     match vec![in alloc; 0; MOST_READ] {
         Ok(mut text) => read_into(alloc, conf, text.as_mut_slice(), make),
@@ -40,6 +43,7 @@ fn read_into<F: Source, M: Patterns>(
     requires { length text.old ≡ 1048577 }
     ensures gives { GivesConf (IsSaid (M.faults make.old) (M.faults make.new)) (inflow F.left F.ended F.faults conf.old conf.new) result }
     ensures caches { IfOk result (λ c. AreCaches c.caches) }
+    ensures routes { IfOk result (λ c. AskCachesBelow (length c.caches) (rules_of c.routes)) }
 {
     match fill(conf, text) {
         Filled::Whole => said(alloc, text, make),
@@ -53,6 +57,7 @@ fn said<M: Patterns>(alloc: Global, text: &[u8], make: &mut M) -> Result<Conf, R
     requires { length text.now < 2 ^ 32 }
     ensures says { Says (IsSaid (M.faults make.old) (M.faults make.new) text.now) result }
     ensures caches { IfOk result (λ c. AreCaches c.caches) }
+    ensures routes { IfOk result (λ c. AskCachesBelow (length c.caches) (rules_of c.routes)) }
 {
     match read_conf(alloc, text, make) {
         Ok(conf) => Ok(conf),
@@ -69,6 +74,7 @@ pub fn configuration_with_a_cache<F: Source, M: Patterns>(
 ) -> Result<Conf, RunFault>
     ensures gives { GivesConf (IsSaidWithACache (M.faults make.old) (M.faults make.new)) (inflow F.left F.ended F.faults conf.old conf.new) result }
     ensures caches { IfOk result (λ c. AreCaches c.caches) }
+    ensures routes { IfOk result (λ c. AskCachesBelow (length c.caches) (rules_of c.routes)) }
 {
     match configuration(alloc, conf, make) {
         Ok(conf) => having_a_cache(conf),
@@ -78,9 +84,11 @@ pub fn configuration_with_a_cache<F: Source, M: Patterns>(
 
 // Refuses a configuration without a cache.
 fn having_a_cache(conf: Conf) -> Result<Conf, RunFault>
-    requires { AreCaches conf.caches }
+    requires caches { AreCaches conf.caches }
+    requires routes { AskCachesBelow (length conf.caches) (rules_of conf.routes) }
     ensures gives { (before after : ℕ) (text : List ℕ) → IsSaid before after text (Ok conf) → Says (IsSaidWithACache before after text) result }
     ensures caches { IfOk result (λ c. AreCaches c.caches) }
+    ensures routes { IfOk result (λ c. AskCachesBelow (length c.caches) (rules_of c.routes)) }
 {
     if conf.caches.len() == 0 {
         return Err(RunFault::Conf(ConfFault {

@@ -1,25 +1,27 @@
 // The top call.
-ghost use Rattle.std.specs.Prelude.{◌≡◌, ◌<◌, ◌^◌, ◌⊎◌, [], ℕ, false, map, None, Some};
+ghost use Rattle.std.specs.Prelude.{◌≡◌, ◌<◌, ◌^◌, ◌⊎◌, [], ℕ, length, false, map, Some};
 ghost use Rattle.std.specs.String.{string_bytes};
 ghost use Rattle.uw_outside.specs.Streams.{inflow, outflow};
-ghost use Rattle.uw_conf.specs.Given.{options_in};
+ghost use Rattle.uw_rules.specs.CacheNumbers.{AskCachesBelow};
+ghost use Rattle.uw_rules.specs.Compiled.{rules_of};
 ghost use Rattle.uw_conf.specs.Sound.{AreCaches};
-ghost use Rattle.uw_conf.specs.declared.conf.Conf.{Conf};
 ghost use Rattle.uw_ends.specs.declared.ends.RunFault.TheVariants as faults;
 ghost use Rattle.uw_ends.specs.declared.words.Command.TheVariants as commands;
 ghost use Rattle.uw_ends.specs.Ends.{status_of};
 ghost use Rattle.uw_ends.specs.Words.{command_of};
 ghost use Rattle.uw_top.specs.Load.{LoadRun};
-ghost use Rattle.uw_top.specs.Pipe.{PipeRun};
+ghost use Rattle.uw_session.specs.Exchange.{IsSiteOf, Site};
+ghost use Rattle.uw_top.specs.Pipe.{PipeRun, empty_lists, list_leads, unbounded};
 ghost use Rattle.uw_top.specs.Run.{Runs, IsSaid, IsSaidWithACache, is_built};
 
 use crate::configuration::{configuration, configuration_with_a_cache};
 use crate::load::load;
 use crate::pipe::serve;
-use crate::server::Server;
 use std::alloc::Global;
+use uw_chain::Searches;
 use uw_conf::Conf;
 use uw_ends::{BriefList, Command, RunEnd, RunFault, WordsFault, read_words};
+use uw_model::ListDesk;
 use uw_outside::{Clock, Sink, Source};
 use uw_rules::Patterns;
 
@@ -46,14 +48,14 @@ pub fn run<F: Source, M: Patterns, S: Source, K: Sink, C: Clock>(
     ensures pipes { command_of (map string_bytes words.now) ≡ Some (commands.Pipe []) → Runs (IsSaid (M.faults make.old) (M.faults make.new))
         (inflow F.left F.ended F.faults conf.old conf.new)
         ((src.new ≡ src.old) × (snk.new ≡ snk.old) × (clock.new ≡ clock.old) × (result.briefs ≡ [])) result.fault
-        (λ c. PipeRun (options_in c)
+        (λ site. PipeRun list_leads (empty_lists site.options) unbounded site
         (inflow S.left S.ended S.faults src.old src.new)
         (outflow K.taken K.faults snk.old snk.new)
         (C.gave clock.old clock.new) result.briefs result.fault) }
     ensures loads { (first count : ℕ) → command_of (map string_bytes words.now) ≡ Some (commands.Load first count) → Runs (IsSaidWithACache (M.faults make.old) (M.faults make.new))
         (inflow F.left F.ended F.faults conf.old conf.new)
         ((src.new ≡ src.old) × (snk.new ≡ snk.old) × (clock.new ≡ clock.old) × (result.briefs ≡ [])) result.fault
-        (λ c. (src.new ≡ src.old) × (result.briefs ≡ []) × LoadRun (options_in c) first count
+        (λ site. (src.new ≡ src.old) × (result.briefs ≡ []) × LoadRun site.options first count
         (outflow K.taken K.faults snk.old snk.new)
         (C.gave clock.old clock.new) result.fault) }
 {
@@ -92,7 +94,7 @@ fn pipe<F: Source, M: Patterns, S: Source, K: Sink, C: Clock>(
     ensures pipes { Runs (IsSaid (M.faults make.old) (M.faults make.new))
         (inflow F.left F.ended F.faults conf.old conf.new)
         ((src.new ≡ src.old) × (snk.new ≡ snk.old) × (clock.new ≡ clock.old) × (result.briefs ≡ [])) result.fault
-        (λ c. PipeRun (options_in c)
+        (λ site. PipeRun list_leads (empty_lists site.options) unbounded site
         (inflow S.left S.ended S.faults src.old src.new)
         (outflow K.taken K.faults snk.old snk.new)
         (C.gave clock.old clock.new) result.briefs result.fault) }
@@ -111,19 +113,33 @@ fn piped<S: Source, K: Sink, C: Clock>(
     snk: &mut K,
     clock: &mut C,
 ) -> RunEnd
-    requires { AreCaches conf.caches }
+    requires caches { AreCaches conf.caches }
+    requires known { AskCachesBelow (length conf.caches) (rules_of conf.routes) }
     ensures status { result.status ≡ status_of result.fault }
-    ensures pipes { PipeRun (options_in conf)
+    ensures pipes { (site : Site) → IsSiteOf conf site → PipeRun list_leads (empty_lists site.options) unbounded site
         (inflow S.left S.ended S.faults src.old src.new)
         (outflow K.taken K.faults snk.old snk.new)
         (C.gave clock.old clock.new) result.briefs result.fault }
 {
-    let mut server = match Server::new(alloc, conf) {
-        Ok(server) => server,
+    let mut desk = match ListDesk::new(alloc, &conf.caches) {
+        Ok(desk) => desk,
+        Err(_) => return refused(alloc, RunFault::Memory),
+    };
+    let mut searches = match Searches::new(alloc, &conf.routes) {
+        Ok(searches) => searches,
         Err(_) => return refused(alloc, RunFault::Memory),
     };
     let mut briefs = Vec::new(alloc);
-    let fault = serve(alloc, &mut server, &mut briefs, src, snk, clock);
+    let fault = serve(
+        alloc,
+        &mut searches,
+        &conf,
+        &mut desk,
+        &mut briefs,
+        src,
+        snk,
+        clock,
+    );
     RunEnd::new(fault, BriefList::from_vec(briefs))
 }
 
@@ -143,7 +159,7 @@ fn load_over<F: Source, M: Patterns, K: Sink, C: Clock>(
     ensures loads { Runs (IsSaidWithACache (M.faults make.old) (M.faults make.new))
         (inflow F.left F.ended F.faults conf.old conf.new)
         ((snk.new ≡ snk.old) × (clock.new ≡ clock.old)) result.fault
-        (λ c. LoadRun (options_in c) first count
+        (λ site. LoadRun site.options first count
         (outflow K.taken K.faults snk.old snk.new)
         (C.gave clock.old clock.new) result.fault) }
 {

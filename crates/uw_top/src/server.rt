@@ -1,15 +1,16 @@
-// What answers packets: a configuration and its caches.
-ghost use Rattle.std.specs.Prelude.{◌≡◌, ◌<◌, ◌≤◌, ◌^◌, length, None, Some, IfOk, IfErr};
+// What answers the packets of a load: a configuration and its caches.
+ghost use Rattle.std.specs.Prelude.{◌≡◌, ◌<◌, ◌≤◌, ◌^◌, [], length, option_map, Some, IfOk, IfErr};
 ghost use Rattle.std.specs.List.{AllByRecursion};
 ghost use Rattle.uw_model.specs.Caches.{empty_caches};
 ghost use Rattle.uw_model.specs.Entries.{IsCacheConf};
 ghost use Rattle.uw_cachecmd.specs.Replies.{reply_text};
 ghost use Rattle.uw_conf.specs.Given.{options_in};
 ghost use Rattle.uw_ends.specs.declared.ends.RunFault.TheVariants as faults;
-ghost use Rattle.uw_top.specs.Exchange.{frame, refusal_of};
-ghost use Rattle.uw_top.specs.PipeSteps.{AnswersPacket, RepliesTo};
+ghost use Rattle.uw_cachecmd.specs.Commands.{IsCacheModifier};
+ghost use Rattle.uw_session.specs.Exchange.{header_refusal};
+ghost use Rattle.uw_top.specs.LoadSteps.{RepliesTo};
+ghost use Rattle.uw_top.specs.Pipe.{bad_packet_of};
 
-use byteorder::{ByteOrder, LittleEndian};
 use std::alloc::Global;
 use std::marker::Model;
 use uw_base::{Bytes, Memory};
@@ -59,7 +60,7 @@ impl Server {
 
     /// Why a header is refused.
     pub fn judge(&self, head: &Header) -> Option<BadPacket>
-        ensures { result ≡ refusal_of self.now.conf head.now }
+        ensures { result ≡ option_map bad_packet_of (header_refusal self.now.conf head.now) }
     {
         if u32::from(head.size) > self.conf.buffer_size {
             return Some(BadPacket::TooBig {
@@ -68,23 +69,22 @@ impl Server {
             });
         }
         match (head.m1, head.m2) {
-            (111, 0 | 1 | 2 | 200) => None,
+            (0, _) | (111, 0 | 1 | 2 | 200) => None,
             (m1, m2) => Some(BadPacket::NoModifier { m1, m2 }),
         }
     }
 
-    /// The reply to a packet whose header is accepted.
+    /// The reply to a command's packet.
     pub fn reply(
         &mut self,
         alloc: Global,
         moment: u64,
         packet: &Packet,
     ) -> Result<Replied, RunFault>
-        requires accepted { refusal_of self.old.conf packet.now.head ≡ None }
-        requires size { length packet.now.block ≡ packet.now.head.size }
+        requires served { IsCacheModifier packet.now.head.m2 }
         requires short { length packet.now.block < 2 ^ 16 }
         ensures reply { RepliesTo self.old.conf self.old.caches self.new.caches
-            (record { moment = moment; head = packet.now.head; block = packet.now.block }) result }
+            (record { moment = moment; head = packet.now.head; block = packet.now.block; body = [] }) result }
         ensures conf { self.new.conf ≡ self.old.conf }
     {
         let m2 = packet.head.m2;
@@ -106,21 +106,6 @@ impl Server {
             }),
         }
     }
-
-    /// The frame that answers a packet whose header is accepted.
-    pub fn answer(&mut self, alloc: Global, moment: u64, packet: &Packet) -> Result<Bytes, RunFault>
-        requires accepted { refusal_of self.old.conf packet.now.head ≡ None }
-        requires size { length packet.now.block ≡ packet.now.head.size }
-        requires short { length packet.now.block < 2 ^ 16 }
-        ensures answer { AnswersPacket self.old.conf self.old.caches self.new.caches
-            (record { moment = moment; head = packet.now.head; block = packet.now.block }) result }
-        ensures conf { self.new.conf ≡ self.old.conf }
-    {
-        match self.reply(alloc, moment, packet) {
-            Ok(replied) => framed(alloc, &replied.text),
-            Err(fault) => Err(fault),
-        }
-    }
 }
 
 // The reply to an answer, with the answer.
@@ -133,14 +118,4 @@ fn reply_to(alloc: Global, m2: u8, answer: Answer) -> Result<Replied, RunFault>
         text: cache_reply(alloc, m2, &answer)?,
         answer: Some(answer),
     })
-}
-
-// A reply behind its length modulo 2^32 in four bytes.
-fn framed(alloc: Global, reply: &Bytes) -> Result<Bytes, RunFault>
-    ensures frame { IfOk result (λ b. b ≡ frame reply.now) }
-    ensures memory { IfErr result (λ e. e ≡ faults.Memory) }
-{
-    let mut length = [0; 4];
-    LittleEndian::write_u32(&mut length, (reply.len() % (1 << 32)) as u32);
-    Ok(Bytes::joined(alloc, &length, reply.as_slice())?)
 }

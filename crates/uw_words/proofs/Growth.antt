@@ -202,3 +202,23 @@ row_has first (suc count) at low high = elim (cases_eq first at) [
   | inl here ↦ inl here
   | inr other ↦ inr (row_has (first + 1) count at (omega arith) (omega arith))
 ]
+
+-- a place before a row is none of it
+pub none_before : (first count at : ℕ) → at < first → IsNoneOf (places_from first count) at
+none_before first zero at low = tt
+none_before first (suc count) at low = ((λ same. absurd (omega (arith, same))), none_before (first + 1) count at (omega arith))
+
+pub row_length : (first count : ℕ) → length (places_from first count) ≡ count
+row_length first zero = refl
+row_length first (suc count) = ap suc (row_length (first + 1) count)
+
+-- places in a row are some of them, and then the others
+pub places_split : (first early late : ℕ) → places_from first (early + late) ≡ places_from first early ++ places_from (first + early) late
+places_split first zero late =
+    let none : zero + late ≡ late = omega arith in
+    let same : first + zero ≡ first = omega arith in
+    ap (places_from first) none ∙ ap (λ (at : ℕ). places_from at late) (sym same)
+places_split first (suc early) late =
+    let sum : suc early + late ≡ suc (early + late) = omega arith in
+    let next : first + 1 + early ≡ first + suc early = omega arith in
+    ap (places_from first) sum ∙ ap (λ (places : List ℕ). first ∷ places) (places_split (first + 1) early late ∙ ap (λ (at : ℕ). places_from (first + 1) early ++ places_from at late) next)

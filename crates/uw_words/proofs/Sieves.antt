@@ -1,35 +1,44 @@
 -- A sieve after one more place.
-use Rattle.std.proofs.Common.{◌≡◌, ℕ, ◌*◌, ◌/◌, ◌%◌, ◌^◌, ◌<◌, List, [], ◌∷◌, ◌++◌, bit_or, length, get_or, set, inl, inr, sym, ap, ◌∙◌, subst, arith}
-use Rattle.std.specs.Int.{bit_at, w64}
+use Rattle.std.proofs.Common.{◌≡◌, ℕ, ◌-◌, ◌/◌, ◌^◌, ◌<◌, List, [], ◌∷◌, ◌++◌, bit_and, length, get_or, set, inl, inr, refl, sym, ap, ◌∙◌, subst, arith}
+use Rattle.std.specs.Int.Bits.{and_zero_l}
 use Rattle.std.proofs.lemmas.Bool.{cases_eq, cases_lt}
 use Rattle.std.proofs.lemmas.List.{get_or-set_same, get_or-set_other, length-set, length_push}
-use Rattle.std.proofs.lemmas.Nat.Bits.{bit_at_set_same, bit_at_set_other}
-use Rattle.uw_words.specs.Slots.{place, sieve_bit, Passes, PassesAll}
+use Rattle.std.proofs.lemmas.Nat.{and_comm, and_assoc}
+use Rattle.std.proofs.lemmas.Grind.{and-not_self}
+use Rattle.uw_words.specs.Slots.{place, sieve_mark, Passes, PassesAll}
 use Rattle.uw_words.proofs.Tables.{place-push, place_last, place-set}
 
-module _ (sieve : List ℕ) (bit : ℕ) (within : bit / 64 < length sieve) where
-  abbrev with_bit : List ℕ
-  with_bit = set sieve (bit / 64) (bit_or (get_or sieve (bit / 64) 0) (1 * 2 ^ (bit % 64) % 2 ^ 64))
+-- two numbers that have no bit in common have none after one of them lost some
+still_apart : (word kept mark : ℕ) → bit_and word mark ≡ 0 → bit_and (bit_and word kept) mark ≡ 0
+still_apart word kept mark apart =
+    and_assoc mark word kept ∙ ap (bit_and word) (and_comm kept mark) ∙ sym (and_assoc kept word mark) ∙ ap (λ (bits : ℕ). bit_and bits kept) apart ∙ and_zero_l kept
 
-  pub set_bit : (at : ℕ) → sieve_bit at ≡ bit → Passes with_bit at
-  set_bit at is = subst (λ (b : ℕ). bit_at (get_or with_bit (b / 64) 0) (b % 64) ≡ 1) (sym is)
-      (ap (λ (w : ℕ). bit_at w (bit % 64)) (get_or-set_same sieve (bit / 64) (bit_or (get_or sieve (bit / 64) 0) (1 * 2 ^ (bit % 64) % 2 ^ 64)) 0 within)
-      ∙ bit_at_set_same w64 (get_or sieve (bit / 64) 0) (bit % 64) (omega arith))
+-- a word without the bits of a mark
+abbrev without : ℕ → ℕ → ℕ
+without word mark = bit_and word (2 ^ 32 - 1 - mark)
 
-  pub kept_bit : (other : ℕ) → bit_at (get_or sieve (other / 64) 0) (other % 64) ≡ 1 → bit_at (get_or with_bit (other / 64) 0) (other % 64) ≡ 1
-  kept_bit other was = elim (cases_eq (other / 64) (bit / 64)) [
+module _ (sieve : List ℕ) (mark index : ℕ) (small : mark < 2 ^ 32) (is_index : index ≡ mark / 2 ^ 22) (within : index < length sieve) where
+  -- a sieve that lets the places of a mark through, too
+  abbrev word : ℕ
+  word = without (get_or sieve index 0) mark
+
+  abbrev admitting : List ℕ
+  admitting = set sieve index word
+
+  pub admitted : (at : ℕ) → mark ≡ sieve_mark at → Passes admitting at
+  admitted at is = subst (λ (m : ℕ). bit_and (get_or admitting (m / 2 ^ 22) 0) m ≡ 0) is
+      (ap (λ (q : ℕ). bit_and (get_or admitting q 0) mark) (sym is_index)
+      ∙ ap (λ (w : ℕ). bit_and w mark) (get_or-set_same sieve index word 0 within)
+      ∙ and-not_self (get_or sieve index 0) (2 ^ 32 - 1) mark mark refl (omega (arith, small)) refl)
+
+  pub admitted_before : (other : ℕ) → Passes sieve other → Passes admitting other
+  admitted_before other was = elim (cases_eq (sieve_mark other / 2 ^ 22) index) [
     | inl same ↦
-        ap (λ (q : ℕ). bit_at (get_or with_bit q 0) (other % 64)) same
-        ∙ ap (λ (w : ℕ). bit_at w (other % 64)) (get_or-set_same sieve (bit / 64) (bit_or (get_or sieve (bit / 64) 0) (1 * 2 ^ (bit % 64) % 2 ^ 64)) 0 within)
-        ∙ in_word same
-    | inr apart ↦ ap (λ (w : ℕ). bit_at w (other % 64)) (get_or-set_other sieve (bit / 64) (other / 64) (bit_or (get_or sieve (bit / 64) 0) (1 * 2 ^ (bit % 64) % 2 ^ 64)) 0 apart) ∙ was
+        ap (λ (q : ℕ). bit_and (get_or admitting q 0) (sieve_mark other)) same
+        ∙ ap (λ (w : ℕ). bit_and w (sieve_mark other)) (get_or-set_same sieve index word 0 within)
+        ∙ still_apart (get_or sieve index 0) (2 ^ 32 - 1 - mark) (sieve_mark other) (ap (λ (q : ℕ). bit_and (get_or sieve q 0) (sieve_mark other)) (sym same) ∙ was)
+    | inr apart ↦ ap (λ (w : ℕ). bit_and w (sieve_mark other)) (get_or-set_other sieve index (sieve_mark other / 2 ^ 22) word 0 apart) ∙ was
   ]
-    where
-      in_word : other / 64 ≡ bit / 64 → bit_at (bit_or (get_or sieve (bit / 64) 0) (1 * 2 ^ (bit % 64) % 2 ^ 64)) (other % 64) ≡ 1
-      in_word same = elim (cases_eq (other % 64) (bit % 64)) [
-        | inl here ↦ ap (bit_at (bit_or (get_or sieve (bit / 64) 0) (1 * 2 ^ (bit % 64) % 2 ^ 64))) here ∙ bit_at_set_same w64 (get_or sieve (bit / 64) 0) (bit % 64) (omega arith)
-        | inr beside ↦ bit_at_set_other w64 (get_or sieve (bit / 64) 0) (bit % 64) (omega arith) (other % 64) beside ∙ ap (λ (q : ℕ). bit_at (get_or sieve q 0) (other % 64)) (sym same) ∙ was
-      ]
 
 -- all planned places pass after one more write
 pub passes_push : (sieve sieve' : List ℕ) (plan : List (ℕ × ℕ)) (at word : ℕ) → PassesAll sieve plan → ((other : ℕ) → Passes sieve other → Passes sieve' other) → Passes sieve' at

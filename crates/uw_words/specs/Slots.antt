@@ -1,7 +1,6 @@
 -- The table by which an overlay finds a place: each slot is empty (0) or has the number, from 1, of a planned write. A place is looked for from its home on, round
 -- the table, up to the first empty slot (open addressing with linear probing).
 use Rattle.std.specs.Prelude.{◌≡◌, ◌≢◌, ℕ, ◌+◌, ◌-◌, ◌*◌, ◌/◌, ◌%◌, ◌^◌, ◌<◌, ◌≤◌, List, length, if◌then◌else◌, ◌==◌, nat_lt, bit_and, slice_index, slice_index_or, count_by}
-use Rattle.std.specs.Int.{bit_at}
 
 -- the place of the planned write of this index
 abbrev pub place : List (ℕ × ℕ) → ℕ → ℕ
@@ -32,16 +31,17 @@ pub record IsTable (plan : List (ℕ × ℕ)) (slots : List ℕ) : Type 0 where
   pub found : (k : ℕ) → k < length plan → (slot : ℕ) × Reaches slots (place plan k) slot × (slice_index slots slot ≡ k + 1)
   pub empty : count_by (λ number. number == 0) slots + length plan ≡ length slots
 
--- A sieve tells of most places in one step that no planned write has them: 4096 bits in 64 words, of which each planned place sets one.
+-- A sieve tells of most places in one step that no planned write has them: 1024 words of 32 bits. Each place has a mark of 32 bits, whose highest ten say which
+-- word the place belongs to. A place passes where its word has none of the bits of its mark, so a word that is all ones lets none through but those of the mark 0.
 
--- the bit of a place
-unfoldable pub sieve_bit : ℕ → ℕ
-sieve_bit at = at * 0x9E3779B97F4A7C15 % 2 ^ 64 / 2 ^ 52
+-- the mark of a place: 32 bits, of which the highest ten name its word of the sieve
+unfoldable pub sieve_mark : ℕ → ℕ
+sieve_mark at = at % 2 ^ 32 * 0x9E3779B1 % 2 ^ 32
 
--- the bit of a place is set
+-- the sieve lets a place through: its word has none of the bits of the place's mark
 abbrev pub Passes : List ℕ → ℕ → Type 0
-Passes sieve at = bit_at (slice_index sieve (sieve_bit at / 64)) (sieve_bit at % 64) ≡ 1
+Passes sieve at = bit_and (slice_index sieve (sieve_mark at / 2 ^ 22)) (sieve_mark at) ≡ 0
 
--- the bits of all planned places are set
+-- the sieve lets all planned places through
 abbrev pub PassesAll : List ℕ → List (ℕ × ℕ) → Type 0
 PassesAll sieve plan = (k : ℕ) → k < length plan → Passes sieve (place plan k)

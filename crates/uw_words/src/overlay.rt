@@ -1,9 +1,9 @@
 // Words that are planned for places of a region.
-ghost use Rattle.std.specs.Prelude.{◌≡◌, ◌+◌, ◌-◌, ◌<◌, ◌≤◌, ◌⊎◌, [], length, slice_get, IfOk, Some};
-ghost use Rattle.uw_words.specs.Plans.{region, through, with_put, Names, HasDistinctPlaces};
+ghost use Rattle.std.specs.Prelude.{◌≡◌, ◌+◌, ◌-◌, ◌<◌, ◌≤◌, ◌⊎◌, [], length, slice_get, unwrap_or, IfOk, Some};
+ghost use Rattle.uw_words.specs.Plans.{planned, region, through, with_put, Names, HasDistinctPlaces};
 
 use crate::ram::Ram;
-use crate::sieve::{SIEVE_WORDS, admit, passes};
+use crate::sieve::{SHUT, SIEVE_WORDS, admit, passes, shut_out};
 use crate::slots::{empty, rebuild, seek};
 use std::alloc::Global;
 use std::marker::Model;
@@ -27,7 +27,7 @@ pub struct Overlay {
     slots: Vec<u64>,
     most_slots: usize,
     // It keeps out most places that are not planned, in one step.
-    sieve: [u64; SIEVE_WORDS],
+    sieve: [u32; SIEVE_WORDS],
 }
 
 impl Model for Overlay {
@@ -59,7 +59,7 @@ impl Overlay {
             writes,
             slots,
             most_slots,
-            sieve: [0; SIEVE_WORDS],
+            sieve: [SHUT; SIEVE_WORDS],
         })
     }
 
@@ -68,13 +68,23 @@ impl Overlay {
         requires { at < length ram.now }
         ensures { result ≡ through self.now.writes (region ram.now) at }
     {
-        if !passes(&self.sieve, at) {
-            return ram.load(at);
+        let own = ram.load(at);
+        if passes(&self.sieve, at) {
+            return self.planned_or(at, own);
         }
+        own
+    }
+
+    // The word planned for a place, or else this one. It stands apart, so that a caller's code has the short way alone.
+    #[cold]
+    #[inline(never)]
+    fn planned_or(&self, at: u64, own: u64) -> u64
+        ensures { result ≡ unwrap_or (planned self.now.writes at) own }
+    {
         let slot = seek(&self.slots, &self.writes, at);
         let number = self.slots[slot] as usize;
         if number == 0 {
-            return ram.load(at);
+            return own;
         }
         self.writes[number - 1].1
     }
@@ -103,9 +113,9 @@ impl Overlay {
     pub fn clear(&mut self)
         ensures { self.new ≡ record self.old { writes = [] } }
     {
+        shut_out(&mut self.sieve, &self.writes);
         self.writes.clear();
         empty(&mut self.slots, FEWEST_SLOTS);
-        self.sieve = [0; SIEVE_WORDS];
     }
 
     /// How many more places it can name.

@@ -5,7 +5,7 @@ ghost use Rattle.uw_words.specs.Slots.{IsTable, home};
 ghost use Rattle.uw_words.specs.SlotSteps.{Ends};
 
 // An odd number near 2^64 divided by the golden ratio, which spreads places that follow each other.
-pub(crate) const SPREAD: u64 = 0x9E37_79B9_7F4A_7C15;
+const SPREAD: u64 = 0x9E37_79B9_7F4A_7C15;
 
 // Where the search for a place begins in a table of so many slots.
 fn home_of(slots: usize, at: u64) -> usize

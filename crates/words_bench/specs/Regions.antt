@@ -10,6 +10,6 @@ frame = record { gate = 10; used = 11; start = 12; room = 3000 }
 
 -- its words are intact, and its plan fits the record
 pub record IsRegion (words : List ℕ) (plan : Plan) : Type 0 where
-  pub len : length words ≡ 69632
+  pub len : length words ≡ 131072
   pub intact : IsIntact frame words
-  pub fits : FitsRecord frame 69632 plan.writes
+  pub fits : FitsRecord frame 131072 plan.writes

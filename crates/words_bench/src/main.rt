@@ -4,7 +4,7 @@
 
 mod region;
 
-use crate::region::Region;
+use crate::region::{FEW, MANY, Region, STRIDE};
 use std::alloc::Global;
 use std::process::ExitCode;
 use std::time::Instant;
@@ -27,25 +27,37 @@ const SMALL: Load = Load {
     timed: false,
 };
 
-// What is timed.
+// What is timed. Words are read along links, or at many places or few that follow from no word; each through the plan,
+// too, which names none of them.
 #[derive(Clone, Copy)]
 enum Work {
-    Plain,
-    Unplanned,
+    Links,
+    LinksThrough,
+    Many,
+    ManyThrough,
+    Few,
+    FewThrough,
     Clear,
     Plan,
     Commit,
     Recover,
 }
 
-const WORKS: [(Work, &str); 6] = [
-    (Work::Plain, "plain"),
-    (Work::Unplanned, "unplanned"),
+const WORKS: [(Work, &str); 10] = [
+    (Work::Links, "links"),
+    (Work::LinksThrough, "links_through"),
+    (Work::Many, "many"),
+    (Work::ManyThrough, "many_through"),
+    (Work::Few, "few"),
+    (Work::FewThrough, "few_through"),
     (Work::Clear, "clear"),
     (Work::Plan, "plan"),
     (Work::Commit, "commit"),
     (Work::Recover, "recover"),
 ];
+
+// How many words a turn of reading reads.
+const READS: u64 = 400;
 
 fn put_words(region: &mut Region, words: u64, first: u64) {
     for k in 0..words {
@@ -70,9 +82,14 @@ fn turn(
     number: u64,
 ) -> Result<u64, Memory> {
     let first = number.wrapping_mul(words);
+    let start = number.wrapping_mul(READS).wrapping_mul(STRIDE);
     match work {
-        Work::Plain => Ok(region.follow(first.wrapping_add(words), words)),
-        Work::Unplanned => Ok(region.follow_planned(first.wrapping_add(words), words)),
+        Work::Links => Ok(region.follow(start, READS)),
+        Work::LinksThrough => Ok(region.follow_through(start, READS)),
+        Work::Many => Ok(region.sum::<MANY>(start, READS / 4)),
+        Work::ManyThrough => Ok(region.sum_through::<MANY>(start, READS / 4)),
+        Work::Few => Ok(region.sum::<FEW>(start, READS / 4)),
+        Work::FewThrough => Ok(region.sum_through::<FEW>(start, READS / 4)),
         Work::Clear => {
             region.clear();
             put_words(region, words, first);

@@ -18,19 +18,25 @@ const FRAME: Frame = Frame {
     room: 3 * MOST,
 };
 
+/// The first places are read and never planned: so many that the processor's first cache does not hold their words.
+pub const MANY: u64 = 65_536;
+
+/// So few that it does.
+pub const FEW: u64 = 2048;
+
 // The first place that is planned, and how many there are from it on.
-const FIRST: u64 = 4096;
+const FIRST: u64 = MANY;
 
 const PLACES: u64 = 65_536;
 
-// A number without a common factor with the number of places, by which each place is away from the one before it.
-const STRIDE: u64 = 40_503;
+/// A number without a common factor with the numbers of places, by which each place is away from the one before it.
+pub const STRIDE: u64 = 40_503;
 
 /// Words with their redo record, and a plan for them.
 #[derive(Drop)]
 pub struct Region {
-    ram: Ram,
     plan: Overlay,
+    ram: Ram,
 }
 
 impl Model for Region {
@@ -47,17 +53,25 @@ impl Model for Region {
 
 // The place of this number.
 fn place(number: u64) -> u64
-    ensures { (4096 ≤ result) × (result < 69632) }
+    ensures { (65536 ≤ result) × (result < 131072) }
 {
     FIRST + number.wrapping_mul(STRIDE) % PLACES
+}
+
+// The place so far on, round and round, among so many that are never planned.
+fn read_place<const SPAN: u64>(on: u64) -> u64
+    requires { (0 < SPAN) × (SPAN ≤ 65536) }
+    ensures { result < 65536 }
+{
+    on % SPAN
 }
 
 impl Region {
     /// Words that are zero, with a plan that has room for so many places.
     pub fn new(alloc: Global, room: u64) -> Result<Region, Memory> {
         Ok(Region {
-            ram: Ram::new(alloc, FIRST + PLACES)?,
             plan: Overlay::new(alloc, room)?,
+            ram: Ram::new(alloc, FIRST + PLACES)?,
         })
     }
 
@@ -73,27 +87,82 @@ impl Region {
         self.plan.load(&self.ram, place(number))
     }
 
-    /// Goes from place to place, so many: the word of each says how far on the next one is, one more than it says.
-    pub fn follow(&self, number: u64, links: u64) -> u64 {
-        let mut next = number;
+    // Each reading is a function of its own in the built program too, so that its code is the same whatever else is
+    // timed.
+
+    /// Goes from place to place, so many: the word of each says how much farther than a stride on the next one is.
+    #[inline(never)]
+    pub fn follow(&self, start: u64, links: u64) -> u64 {
+        let mut on = start;
         for _ in 0..links {
-            next = self
-                .ram
-                .load(place(next))
-                .wrapping_add(next)
-                .wrapping_add(1);
+            let word = self.ram.load(read_place::<MANY>(on));
+            on = on.wrapping_add(STRIDE).wrapping_add(word);
         }
-        next
+        on
     }
 
-    /// The same as they are planned.
-    pub fn follow_planned(&self, number: u64, links: u64) -> u64 {
-        let mut next = number;
+    /// The same through the plan, which names none of the places.
+    #[inline(never)]
+    pub fn follow_through(&self, start: u64, links: u64) -> u64 {
+        let mut on = start;
         for _ in 0..links {
-            let word = self.plan.load(&self.ram, place(next));
-            next = word.wrapping_add(next).wrapping_add(1);
+            let word = self.plan.load(&self.ram, read_place::<MANY>(on));
+            on = on.wrapping_add(STRIDE).wrapping_add(word);
         }
-        next
+        on
+    }
+
+    /// The sum of the words at four times so many of the places, each a stride on from the one before it.
+    #[inline(never)]
+    pub fn sum<const SPAN: u64>(&self, start: u64, fours: u64) -> u64
+        requires { (0 < SPAN) × (SPAN ≤ 65536) }
+    {
+        let mut on = start;
+        let mut sum: u64 = 0;
+        for _ in 0..fours {
+            sum = sum.wrapping_add(self.four::<SPAN>(on));
+            on = on.wrapping_add(4 * STRIDE);
+        }
+        sum
+    }
+
+    /// The same through the plan, which names none of the places.
+    #[inline(never)]
+    pub fn sum_through<const SPAN: u64>(&self, start: u64, fours: u64) -> u64
+        requires { (0 < SPAN) × (SPAN ≤ 65536) }
+    {
+        let mut on = start;
+        let mut sum: u64 = 0;
+        for _ in 0..fours {
+            sum = sum.wrapping_add(self.four_through::<SPAN>(on));
+            on = on.wrapping_add(4 * STRIDE);
+        }
+        sum
+    }
+
+    // Four words at a time: the compiler would unroll the loop of plain reads, and not the other. So the reads are
+    // compared, and not the loops.
+    fn four<const SPAN: u64>(&self, on: u64) -> u64
+        requires { (0 < SPAN) × (SPAN ≤ 65536) }
+    {
+        let mut sum: u64 = 0;
+        for k in 0..4 {
+            let place = read_place::<SPAN>(on.wrapping_add(k * STRIDE));
+            sum = sum.wrapping_add(self.ram.load(place));
+        }
+        sum
+    }
+
+    // The same through the plan.
+    fn four_through<const SPAN: u64>(&self, on: u64) -> u64
+        requires { (0 < SPAN) × (SPAN ≤ 65536) }
+    {
+        let mut sum: u64 = 0;
+        for k in 0..4 {
+            let place = read_place::<SPAN>(on.wrapping_add(k * STRIDE));
+            sum = sum.wrapping_add(self.plan.load(&self.ram, place));
+        }
+        sum
     }
 
     /// Plans nothing any more.

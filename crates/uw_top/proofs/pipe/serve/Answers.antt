@@ -1,29 +1,32 @@
 use Rattle.std.proofs.Common.{◌∙◌, arith}
-use Rattle.uw_top.proofs.Machine.{turn_ends, turn_goes, run_is_full}
+use Rattle.uw_top.proofs.Machine.{none_yet, one_more, run_ends, run_is_full}
 use Rattle.uw_top.proofs.pipe.serve.Goals as goal
 
 pub returns-in-Ok-false : goal.returns-in-Ok-false
-returns-in-Ok-false g c =
+returns-in-Ok-false g c = λ site is.
     let i = c.loop-served.invariant in
-    turn_ends _ g.met.C.Clock.gave_more _ _ _ _ _ _ _ _ _ _ _ _ _ _ _ _ _ _ _ _ _ c.loop-served.served _ i.src i.snk c.loop-served-test.true i.conf i.so_far (rw c.in-Ok-false.field-0-test at c.in-Ok-false.ensures.turn)
+    run_ends g.C.Clock.gave g.met.C.Clock.gave_more g.D.Desk.leads _ _ _ site _ _ _ _ _ _ _ _ _ _ _ _ _ _ _ _ _ _ c.loop-served.served _ i.src i.snk c.loop-served-test.true (i.so_far site is)
+    (rw c.in-Ok-false.field-0-test at (c.in-Ok-false.ensures.turn site is))
 
 pub returns-in-Err : goal.returns-in-Err
-returns-in-Err g c =
+returns-in-Err g c = λ site is.
     let i = c.loop-served.invariant in
-    turn_ends _ g.met.C.Clock.gave_more _ _ _ _ _ _ _ _ _ _ _ _ _ _ _ _ _ _ _ _ _ c.loop-served.served _ i.src i.snk c.loop-served-test.true i.conf i.so_far c.in-Err.ensures.turn
+    run_ends g.C.Clock.gave g.met.C.Clock.gave_more g.D.Desk.leads _ _ _ site _ _ _ _ _ _ _ _ _ _ _ _ _ _ _ _ _ _ c.loop-served.served _ i.src i.snk c.loop-served-test.true (i.so_far site is)
+    (c.in-Err.ensures.turn site is)
 
 pub loop-served-preserved : goal.loop-served-preserved
 loop-served-preserved g c =
     let i = c.loop-served.invariant in
     let e = c.in-Ok-true.ensures in
     record {
-      so_far = turn_goes _ g.met.C.Clock.gave_more _ _ _ _ _ _ _ _ _ _ _ _ _ _ _ _ _ _ _ _ _ i.conf i.so_far (rw c.in-Ok-true.field-0-test at e.turn);
-      conf = e.conf ∙ i.conf;
+      so_far = λ site is. one_more g.C.Clock.gave g.met.C.Clock.gave_more g.D.Desk.leads _ _ _ site _ _ _ _ _ _ _ _ _ _ _ _ _ _ _ _ _ (i.so_far site is) (rw c.in-Ok-true.field-0-test at (e.turn site is));
+      fits = e.fits;
+      caches = e.caches ∙ i.caches;
       src = omega (arith, e.src, i.src);
       snk = omega (arith, e.snk, i.snk);
     }
 
 pub returns : goal.returns
-returns g c =
+returns g c = λ site is.
     let i = c.loop-served.invariant in
-    run_is_full g.C.Clock.gave _ _ _ _ _ _ _ _ c.args.clock.now c.loop-served.clock _ _ _ _ _ _ _ c.loop-served.served i.src (omega arith) i.so_far c.look_further.ensures.further
+    run_is_full g.C.Clock.gave g.D.Desk.leads _ _ site _ _ _ _ _ _ c.args.clock.now c.loop-served.clock _ _ _ _ _ _ _ c.loop-served.served i.src (omega arith) (i.so_far site is) c.look_further.ensures.further

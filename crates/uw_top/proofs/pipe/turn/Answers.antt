@@ -1,27 +1,25 @@
-use Rattle.uw_top.proofs.Stopping.{no_memory, not_taken, not_answered, not_written, goes}
+use Rattle.std.proofs.Common.{◌∙◌, sym, subst, List, ℕ, ◌∷◌, []}
+use Rattle.std.specs.Prelude.{Option, Some}
+use Rattle.uw_outside.specs.Streams.{inflow, outflow}
+use Rattle.uw_ends.specs.declared.ends.RunFault.{RunFault}
+use Rattle.uw_top.specs.PipeSteps.{Stops}
+use Rattle.uw_top.proofs.Stopping.{no_memory, not_served, served}
 use Rattle.uw_top.proofs.pipe.turn.Goals as goal
 
 pub returns-then-is_err-clause-turn : goal.returns-then-is_err-clause-turn
-returns-then-is_err-clause-turn g c =
-    (c.reserve.ensures.items, no_memory _ _ _ _ _ _ _ _ _ c.now-moment.result _ c.now-moment.ensures)
+returns-then-is_err-clause-turn g c = λ site is.
+    (c.reserve.ensures.items, no_memory (g.D.Desk.leads c.args.desk.now c.args.desk.now) site _ _ _ _ _ _ _ c.now-moment.result _ c.now-moment.ensures)
 
-pub returns-in-Err-clause-turn : goal.returns-in-Err-clause-turn
-returns-in-Err-clause-turn g c =
-    (c.reserve.ensures.items, not_taken _ _ _ _ _ _ c.now-moment.result _ c.in-Err.fault c.now-moment.ensures c.in-Err.ensures.taken)
+pub returns-in-Ok-clause-turn : goal.returns-in-Ok-clause-turn
+returns-in-Ok-clause-turn g c = λ site is.
+    served (g.D.Desk.leads c.args.desk.now c.serve_with.new.desk) site _ _ c.now-moment.result _ _ _ c.in-Ok.field-0 c.now-moment.ensures (c.in-Ok.ensures.serves site is)
+    (rw c.reserve.ensures.items at c.push_reserved.ensures.items)
 
-pub returns-in-Err-answer-clause-turn : goal.returns-in-Err-answer-clause-turn
-returns-in-Err-answer-clause-turn g c =
-    let taken = rw c.in-Ok-Some.field-0-is at c.in-Ok-Some.ensures.taken in
-    (c.reserve.ensures.items, not_answered _ _ c.answer.new.self.caches _ _ _ _ c.now-moment.result _ c.in-Ok-Some.packet c.in-Err-answer.fault c.now-moment.ensures taken c.in-Err-answer.ensures.answer)
-
-pub returns-in-Err-put_all-clause-turn : goal.returns-in-Err-put_all-clause-turn
-returns-in-Err-put_all-clause-turn g c =
-    let taken = rw c.in-Ok-Some.field-0-is at c.in-Ok-Some.ensures.taken in
-    let part = rw c.as_slice.ensures at c.in-Err-put_all.ensures.part in
-    (c.reserve.ensures.items, not_written _ _ _ _ _ c.now-moment.result c.in-Err-put_all.field-0 _ c.in-Ok-Some.packet c.in-Ok.frame c.now-moment.ensures taken c.in-Ok.ensures.answer part.0 part.1 c.in-Err-put_all.ensures.cause)
-
-pub returns-clause-turn : goal.returns-clause-turn
-returns-clause-turn g c =
-    let taken = rw c.in-Ok-Some.field-0-is at c.in-Ok-Some.ensures.taken in
-    let whole = rw c.as_slice.ensures at c.in-Ok-put_all.ensures.whole in
-    goes _ _ _ _ _ _ _ c.now-moment.result _ c.in-Ok-Some.packet c.in-Ok.frame c.now-moment.ensures taken c.in-Ok.ensures.answer whole (rw c.reserve.ensures.items at c.push_reserved.ensures.items)
+pub returns-in-Some-clause-turn : goal.returns-in-Some-clause-turn
+returns-in-Some-clause-turn g c = λ site is.
+    let led = g.D.Desk.leads c.args.desk.now c.serve_with.new.desk in
+    let src = inflow g.S.Source.left g.S.Source.ended g.S.Source.faults c.args.src.now c.serve_with.new.src in
+    let snk = outflow g.K.Sink.taken g.K.Sink.faults c.args.snk.now c.serve_with.new.snk in
+    let gave = g.C.Clock.gave c.args.clock.now c.now-moment.new.self in
+    let Stopped : Option RunFault → Type 0 = λ fault. Stops led site src snk gave fault in
+    (c.reserve.ensures.items, subst Stopped (sym c.run_fault.ensures ∙ c.in-Some.is) (not_served led site src snk c.now-moment.result gave c.in-Err.fault c.now-moment.ensures (c.in-Err.ensures.serves site is)))

@@ -1,7 +1,17 @@
+use Rattle.std.proofs.Common.{Option}
+use Rattle.uw_outside.specs.Streams.{inflow, outflow}
+use Rattle.uw_session.specs.Exchange.{Site}
+use Rattle.uw_top.specs.Pipe.{PipeRun, empty_lists, list_leads, unbounded}
 use Rattle.uw_top.specs.Run.{IsSaid}
-use Rattle.uw_top.proofs.Configuring.{runs_over}
+use Rattle.uw_top.proofs.Configuring.{runs_over, site_is}
 use Rattle.uw_top.proofs.runs.pipe.Goals as goal
 
 pub returns-in-Ok-clause-pipes : goal.returns-in-Ok-clause-pipes
 returns-in-Ok-clause-pipes g c =
-    runs_over (IsSaid (g.M.Patterns.faults c.args.make.now) (g.M.Patterns.faults c.configuration.new.make)) _ _ _ _ c.in-Ok.conf c.in-Ok.ensures.gives c.piped.ensures.pipes
+    let before = g.M.Patterns.faults c.args.make.now in
+    let after = g.M.Patterns.faults c.configuration.new.make in
+    let src = inflow g.S.Source.left g.S.Source.ended g.S.Source.faults c.args.src.now c.piped.new.src in
+    let snk = outflow g.K.Sink.taken g.K.Sink.faults c.args.snk.now c.piped.new.snk in
+    let gave = g.C.Clock.gave c.args.clock.now c.piped.new.clock in
+    let Ran : Site → Type 0 = λ site. PipeRun list_leads (empty_lists site.options) unbounded site src snk gave c.piped.result.briefs c.piped.result.fault in
+    runs_over (IsSaid before after) _ _ _ Ran c.in-Ok.conf c.in-Ok.ensures.gives (λ text said. c.piped.ensures.pipes _ (site_is before after text c.in-Ok.conf said))

@@ -1,7 +1,7 @@
-use Rattle.std.proofs.Common.{◌≡◌, ℕ, Some, inr, refl, sym, ap, ◌∙◌, subst}
+use Rattle.std.proofs.Common.{◌≡◌, ℕ, [], Some, inr, refl, sym, ap, ◌∙◌, subst}
 use Rattle.uw_outside.specs.Streams.{outflow}
-use Rattle.uw_conf.specs.Given.{options_in}
 use Rattle.uw_ends.specs.declared.words.Command.TheVariants as commands
+use Rattle.uw_session.specs.Exchange.{Site}
 use Rattle.uw_top.specs.Load.{LoadRun}
 use Rattle.uw_top.specs.Run.{IsSaidWithACache}
 use Rattle.uw_top.proofs.Configuring.{nothing_read, runs_map}
@@ -21,13 +21,15 @@ returns-in-Ok-Load-clause-loads g c = λ first count words.
     let same : Some (commands.Load c.in-Ok-Load.first c.in-Ok-Load.count) ≡ Some (commands.Load first count) = ap Some (sym c.in-Ok-Load.field-0-is) ∙ sym c.in-Ok-Load.ensures.command ∙ words in
     let from : c.in-Ok-Load.first ≡ first = cc in
     let many : c.in-Ok-Load.count ≡ count = cc in
-    runs_map (IsSaidWithACache (g.M.Patterns.faults c.args.make.now) (g.M.Patterns.faults c.load_over.new.make)) _ _ _ _ _ _ (λ same. (refl, same.0, same.1, c.load_over.ensures.briefs))
-    (λ conf ran. (
+    let snk = outflow g.K.Sink.taken g.K.Sink.faults c.args.snk.now c.load_over.new.snk in
+    let gave = g.C.Clock.gave c.args.clock.now c.load_over.new.clock in
+    let fault = c.load_over.result.fault in
+    let Ran : Site → Type 0 = λ site. LoadRun site.options c.in-Ok-Load.first c.in-Ok-Load.count snk gave fault in
+    let Did : Site → Type 0 = λ site. (c.args.src.now ≡ c.args.src.now) × (c.load_over.result.briefs ≡ []) × LoadRun site.options first count snk gave fault in
+    runs_map (IsSaidWithACache (g.M.Patterns.faults c.args.make.now) (g.M.Patterns.faults c.load_over.new.make)) _ _ _ _ Ran Did (λ same. (refl, same.0, same.1, c.load_over.ensures.briefs))
+    (λ site ran. (
       refl,
       c.load_over.ensures.briefs,
-      subst (λ (n : ℕ). LoadRun (options_in conf) n count
-          (outflow g.K.Sink.taken g.K.Sink.faults c.args.snk.now c.load_over.new.snk) (g.C.Clock.gave c.args.clock.now c.load_over.new.clock) c.load_over.result.fault) from
-          (subst (λ (n : ℕ). LoadRun (options_in conf) c.in-Ok-Load.first n
-          (outflow g.K.Sink.taken g.K.Sink.faults c.args.snk.now c.load_over.new.snk) (g.C.Clock.gave c.args.clock.now c.load_over.new.clock) c.load_over.result.fault) many ran),
+      subst (λ (n : ℕ). LoadRun site.options n count snk gave fault) from (subst (λ (n : ℕ). LoadRun site.options c.in-Ok-Load.first n snk gave fault) many ran),
     ))
     c.load_over.ensures.loads

@@ -1,36 +1,12 @@
-use Rattle.std.proofs.Common.{◌≡◌, ◌-◌, ℕ, ◌∙◌, ap, sym, get_or, true, false, arith}
-use Rattle.std.proofs.lemmas.List.{get_or_read}
-use Rattle.uw_words.specs.Plans.{region}
-use Rattle.uw_words.specs.SlotSteps.{Ends}
-use Rattle.uw_words.proofs.Sound.{ends_in, is_named, read_free, read_named, read_sifted}
+use Rattle.std.proofs.Common.{◌≡◌, ◌∙◌, ℕ, ap, sym, true, false, unwrap_or, arith}
+use Rattle.uw_words.specs.Plans.{planned, region}
+use Rattle.uw_words.proofs.Sound.{read_sifted}
 use Rattle.uw_words.proofs.overlay.Overlay.load.Goals as goal
-use Rattle.uw_words.proofs.overlay.Overlay.load.Goals.{After-index}
 
-ends : (c : After-index) → Ends c.self.inside.writes.items c.self.inside.slots.items c.args.at c.seek-slot.result
-ends c = ends_in c.self.inside.writes.items _ c.self.inside.slots.items _ c.args.at c.seek-slot.result c.deref-2.ensures.value c.deref.ensures.value c.seek-slot.ensures
-
-number : (c : After-index) → c.index.result.now ≡ get_or c.self.inside.slots.items c.seek-slot.result 0
-number c = get_or_read c.self.inside.slots.items c.seek-slot.result c.index.result.now (ends c).within c.index.ensures 0
-
-pub returns-then-number-eq0 : goal.returns-then-number-eq0
-returns-then-number-eq0 c =
-    let at = (goal.at.returns-then-number-eq0 c).After-index in
-    let inside = c.self.inside in
-    rw (← c.self.view_is)
-    (c.load-then-number-eq0.ensures ∙ sym (read_free inside.writes.items inside.slots.items c.args.at c.seek-slot.result c.index.result.now (ends at) (number at) (region c.args.ram.now) c.if-number-eq0.true))
+pub returns-then-passes : goal.returns-then-passes
+returns-then-passes c = c.planned_or.ensures ∙ ap (λ (own : ℕ). unwrap_or (planned c.args.self.now.writes c.args.at) own) c.load-own.ensures
 
 pub returns : goal.returns
 returns c =
-    let at = (goal.at.returns c).After-index in
-    let inside = c.self.inside in
-    let plan = inside.writes.items in
-    let named = is_named plan inside.slots.items c.args.at c.seek-slot.result c.index.result.now (ends at) (number at) c.if-number-eq0.false in
-    let read = get_or_read plan (c.index.result.now - 1) c.index-2.result.now named.0 c.index-2.ensures (0, 0) in
     rw (← c.self.view_is)
-    (ap (λ (p : ℕ × ℕ). p.1) read
-    ∙ sym (read_named plan inside.slots.items c.args.at c.seek-slot.result c.index.result.now (ends at) (number at) (region c.args.ram.now) c.self.invariant.0.distinct c.if-number-eq0.false))
-
-pub returns-then-not-passes : goal.returns-then-not-passes
-returns-then-not-passes c =
-    rw (← c.self.view_is)
-    (c.load.ensures ∙ sym (read_sifted c.self.inside.sieve c.self.inside.writes.items c.args.at (region c.args.ram.now) c.self.invariant.1 (λ passes. let both : true ≡ false = sym (c.passes.ensures passes) ∙ c.if-not-passes.true in grind (arith, both))))
+    (c.load-own.ensures ∙ sym (read_sifted c.self.inside.sieve c.self.inside.writes.items c.args.at (region c.args.ram.now) c.self.invariant.1 (λ passes. let both : true ≡ false = sym (c.passes.ensures passes) ∙ c.if-passes.false in grind (arith, both))))

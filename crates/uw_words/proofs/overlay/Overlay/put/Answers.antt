@@ -86,7 +86,7 @@ invariant_of-self-then-len c =
         enough = old.enough;
         slots_capacity = omega (arith, old.slots_capacity, c.rebuild.ensures.capacity);
       },
-      subst (PassesAll c.admit.new.sieve) (sym (pushed at).0) (passes_push c.self.inside.sieve c.admit.new.sieve c.self.inside.writes.items c.args.at c.args.word c.self.invariant.1 c.admit.ensures.kept c.admit.ensures.set),
+      subst (PassesAll c.admit.new.sieve) (sym (pushed at).0) (passes_push c.self.inside.sieve c.admit.new.sieve c.self.inside.writes.items c.args.at c.args.word c.self.invariant.1 c.admit.ensures.kept c.admit.ensures.admitted),
     )
 
 pub invariant_of-self-else-len : goal.invariant_of-self-else-len
@@ -108,7 +108,7 @@ invariant_of-self-else-len c =
         enough = old.enough;
         slots_capacity = old.slots_capacity;
       },
-      subst (PassesAll c.admit.new.sieve) (sym (pushed at).0) (passes_push c.self.inside.sieve c.admit.new.sieve plan c.args.at c.args.word c.self.invariant.1 c.admit.ensures.kept c.admit.ensures.set),
+      subst (PassesAll c.admit.new.sieve) (sym (pushed at).0) (passes_push c.self.inside.sieve c.admit.new.sieve plan c.args.at c.args.word c.self.invariant.1 c.admit.ensures.kept c.admit.ensures.admitted),
     )
 
 pub returns-then-len : goal.returns-then-len

@@ -8,6 +8,6 @@ pub invariant_of-self : goal.invariant_of-self
 invariant_of-self c = subst (λ (plan : Plan). IsRegion c.self.inside.ram plan) (sym c.put.ensures) record {
   len = c.self.invariant.len;
   intact = c.self.invariant.intact;
-  fits = still_fits frame 69632 c.self.inside.plan.writes c.place.result c.args.word c.self.invariant.fits (omega (arith, c.if-count-lt-MOST.true, c.count.ensures.count))
+  fits = still_fits frame 131072 c.self.inside.plan.writes c.place.result c.args.word c.self.invariant.fits (omega (arith, c.if-count-lt-MOST.true, c.count.ensures.count))
       record { within = omega (arith, c.place.ensures); beyond = record { outside = inr (omega (arith, c.place.ensures)); gate = omega (arith, c.place.ensures); used = omega (arith, c.place.ensures) } };
 }
