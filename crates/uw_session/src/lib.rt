@@ -3,9 +3,13 @@
 
 mod answering;
 pub mod faults;
+pub mod laws;
 mod serving;
 mod taking;
 
 pub use answering::{Answered, answer_packet};
 pub use faults::{Form, Refusal, ServeFault, Served};
 pub use serving::{serve_one, serve_with};
+
+#[cfg(test)]
+mod tests;
