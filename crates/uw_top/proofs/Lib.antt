@@ -5,3 +5,4 @@ pub mod Stopping
 pub mod Configuring
 pub mod Cutting
 pub mod OneWayLemmas
+pub mod SameEndLemmas
