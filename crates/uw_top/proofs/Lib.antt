@@ -4,3 +4,5 @@ pub mod Machine
 pub mod Stopping
 pub mod Configuring
 pub mod Cutting
+pub mod OneWayLemmas
+pub mod SameEndLemmas

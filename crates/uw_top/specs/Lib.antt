@@ -6,3 +6,4 @@ pub mod PipeSteps
 pub mod LoadSteps
 pub mod ServerSteps
 pub mod RunSteps
+pub mod Laws
