@@ -2,10 +2,9 @@
 use Rattle.std.proofs.Common.{◌≡◌, ℕ, ◌+◌, ◌*◌, ◌/◌, ◌%◌, ◌^◌, ◌<◌, ◌≤◌, ℤ, Bool, true, false, cond, ltb, List, [], ◌∷◌, ◌++◌, length, take, Option, None, Some, Result, Ok, Err, codes, refl, sym, ap, subst, lit<, lit≤, ◌∙◌, arith, length-append, leb, eqb, ◌&&◌}
 use Rattle.std.proofs.lemmas.List.{append-nil}
 use Rattle.std.proofs.lemmas.Option.{none-some}
-use Rattle.std.specs.Prelude.{option_map}
 use Rattle.std.specs.Fmt.{decimal}
 use Rattle.std.specs.List.{list_all, AllByRecursion}
-use Rattle.std.proofs.lemmas.Bool.{lt-ltb}
+use Rattle.std.proofs.lemmas.Bool.{le-ltb, lt-ltb}
 use Rattle.std.proofs.lemmas.Fmt.{length-decimal-le}
 use Rattle.uw_base.specs.declared.variables.Pair.{Pair}
 use Rattle.uw_outside.specs.Streams.{Gives}
@@ -16,24 +15,33 @@ use Rattle.uw_packet.specs.declared.packet.Header.{Header}
 use Rattle.uw_packet.proofs.Arrays.{chosen_none}
 use Rattle.uw_packet.proofs.BlockLaws.{pairs_read}
 use Rattle.uw_model.specs.declared.calls.Answer.{Answer}
+use Rattle.uw_model.specs.declared.calls.Call.{Call}
+use Rattle.uw_model.specs.declared.asks.Ask.{Ask}
+use Rattle.uw_model.specs.declared.asks.Ask.TheVariants as asks
+use Rattle.uw_model.specs.declared.asks.AskAnswer.{AskAnswer}
+use Rattle.uw_model.specs.declared.asks.Asked.{Asked}
+use Rattle.uw_model.specs.Asks.{desk_asks}
 use Rattle.uw_model.specs.ListState.{ListState}
-use Rattle.uw_model.specs.Caches.{empty_caches}
+use Rattle.uw_model.specs.Caches.{LeadsLists, Lists, empty_caches}
+use Rattle.uw_cachecmd.specs.declared.commands.CmdFault.{CmdFault}
 use Rattle.uw_cachecmd.specs.declared.commands.Kind.{Kind}
 use Rattle.uw_cachecmd.specs.Commands.{commanded, command_block_ask}
+use Rattle.uw_chain.specs.Courses.{Course, Unfolds, asking, ended}
 use Rattle.uw_conf.specs.declared.conf.Options.{Options}
 use Rattle.uw_conf.proofs.SizeLemmas.{AllByRecursion-push}
-use Rattle.uw_ends.specs.declared.ends.BadPacket.TheVariants as bad
 use Rattle.uw_ends.specs.declared.ends.RunFault.{RunFault}
 use Rattle.uw_ends.specs.declared.ends.RunFault.TheVariants as faults
 use Rattle.uw_top.specs.declared.load.Figures.{Figures}
-use Rattle.uw_top.specs.declared.server.Replied.{Replied}
+use Rattle.uw_session.specs.declared.answering.Answered.{Answered}
+use Rattle.uw_session.specs.declared.faults.ServeFault.{ServeFault}
+use Rattle.uw_session.specs.declared.faults.ServeFault.TheVariants as serves
 use Rattle.uw_outside.specs.Streams.{Outflow}
-use Rattle.uw_session.specs.Exchange.{Exchange, IsAccepted, asked_by, broken_command, header_refusal, names_of}
-use Rattle.uw_top.specs.Pipe.{bad_packet_of}
-use Rattle.uw_top.specs.LoadSteps.{caches_from}
-use Rattle.uw_top.specs.Replying.{reply_of}
+use Rattle.uw_session.specs.Exchange.{Exchange, IsAccepted, Site, ask_reply, asked_by, broken_command, course_of_command, header_refusal, names_of}
+use Rattle.uw_session.specs.Serving.{AnswersPacket}
+use Rattle.uw_top.specs.Pipe.{list_leads, unbounded}
+use Rattle.uw_top.specs.Replying.{Reply, replied, reply_of}
 use Rattle.uw_top.specs.Load.{LoadEndsBy, LoadRun, block_for, figures_from, figures_text, head_for, next_number, no_figures, packet_for, packets_from, variables_for, with_reply}
-use Rattle.uw_top.specs.LoadSteps.{AnswersNumber, IsLoaded, RepliesTo, WritesText, number_after}
+use Rattle.uw_top.specs.LoadSteps.{AnswersNumber, IsLoaded, WritesText, answer_behind, caches_from, number_after}
 use Rattle.uw_top.proofs.Packets.{caches_from-push}
 
 -- ---- the block of a generated packet
@@ -118,11 +126,6 @@ command_whole names read pairs e = rw e (commanded_whole _ _ _ _ _ _)
 generated_whole : (conf : Options) (x : ℕ) → x < 2 ^ 31 → broken_command (asked_by conf (head_for x) (block_for x)) ≡ None
 generated_whole conf x small = command_whole (names_of conf) (vars_read (block_for x)) (variables_for x) (pairs_read (variables_for x) (variables_short x small))
 
--- nothing that is said otherwise is nothing
-nothing_said : {X Y : Type 0} → (say : X → Y) (value : Option X) → None ≡ option_map say value → value ≡ None
-nothing_said say None none = refl
-nothing_said say (Some value) none = absurd (none-some (say value) none)
-
 -- a generated packet whose header is accepted is whole
 generated_is_whole : (conf : Options) (moment x : ℕ) → x < 2 ^ 31 → header_refusal conf (head_for x) ≡ None → IsAccepted conf (packet_for moment x)
 generated_is_whole conf moment x small accepted = record {
@@ -133,25 +136,81 @@ generated_is_whole conf moment x small accepted = record {
   body = refl;
 }
 
--- what replies to a packet that is answered answers it
-answers_it : (conf : Options) (caches after : List ListState) (x : Exchange) (result : Result Replied RunFault)
-    → IsAccepted conf x → broken_command (asked_by conf x.head x.block) ≡ None → RepliesTo conf caches after x result → AnswersNumber conf caches after x result
-answers_it conf caches after x (Ok replied) is whole r = (is, r.0, r.1, r.2)
-answers_it conf caches after x (Err (faults.BadPacket (bad.BadBlock at))) is whole r = absurd (none-some at (sym whole ∙ r))
-answers_it conf caches after x (Err (faults.BadPacket _)) is whole r = absurd r
-answers_it conf caches after x (Err faults.Memory) is whole r = tt
-answers_it conf caches after x (Err _) is whole r = absurd r
+-- a generated header whose size is within the limit is accepted
+pub accepted_header : (options : Options) (x : ℕ) (head : Header) → head ≡ head_for x → head.size ≤ options.buffer_size → header_refusal options head ≡ None
+accepted_header options x head made fits =
+    rw (le-ltb options.buffer_size head.size fits, ap (λ (h : Header). h.m1) made, ap (λ (h : Header). h.m2) made) refl
 
--- the same for a packet that is the generated one by two equations
-pub answers_generated : (conf : Options) (caches after : List ListState) (moment x : ℕ) (head : Header) (block : List ℕ) (result : Result Replied RunFault)
-    → x < 2 ^ 31 → head ≡ head_for x → block ≡ block_for x → None ≡ option_map bad_packet_of (header_refusal conf head)
-    → RepliesTo conf caches after (record { moment = moment; head = head; block = block; body = [] }) result
-    → AnswersNumber conf caches after (packet_for moment x) result
-answers_generated conf caches after moment x head block result small made filled accepted r =
-    let same_head = subst (λ (h : Header). RepliesTo conf caches after (record { moment = moment; head = h; block = block; body = [] }) result) made r in
-    let same = subst (λ (b : List ℕ). RepliesTo conf caches after (record { moment = moment; head = head_for x; block = b; body = [] }) result) filled same_head in
-    let taken = subst (λ (h : Header). header_refusal conf h ≡ None) made (nothing_said bad_packet_of (header_refusal conf head) accepted) in
-    answers_it conf caches after (packet_for moment x) result (generated_is_whole conf moment x small taken) (generated_whole conf x small) same
+-- ---- a command over plain lists
+
+-- what a command's asks come to: its reply, the answer behind it, and the lists after it
+record IsReply (reply : Reply) (asked : List Asked) (written : List ℕ) (after : List ListState) : Type 0 where
+  text : written ≡ reply.text
+  answer : answer_behind asked ≡ reply.answer
+  caches : after ≡ reply.caches
+
+-- the reply of a course that is at its end
+abbrev end_told : Course (List ℕ) → Option (List ℕ)
+end_told (ended reply) = Some reply
+end_told (asking ask more) = None
+
+-- the same, where it is known to be at its end
+abbrev reply_told : Course (List ℕ) → List ℕ
+reply_told (ended reply) = reply
+reply_told (asking ask more) = []
+
+-- one ask was made
+one_asked : (lists after : Lists) (moment m2 cache : ℕ) (call : Call) (ask : Ask) (answer : AskAnswer) (written : List ℕ)
+    → ask ≡ asks.Cache cache call → ask_reply m2 answer ≡ written
+    → LeadsLists lists (desk_asks moment (record { ask = ask; answer = answer } ∷ []) ++ []) after
+    → IsReply (replied lists.caches moment m2 (Ok (asks.Cache cache call))) (record { ask = ask; answer = answer } ∷ []) written after.caches
+one_asked lists after moment m2 cache call ask answer written same told led =
+    let Leading : Ask → Type 0 = λ one. LeadsLists lists (desk_asks moment (record { ask = one; answer = answer } ∷ []) ++ []) after in
+    let led_on : Leading (asks.Cache cache call) = subst Leading same led in
+    record {
+      text = sym told ∙ ap (λ (a : AskAnswer). ask_reply m2 a) led_on.0;
+      answer = ap (λ (a : AskAnswer). answer_behind (record { ask = ask; answer = a } ∷ [])) led_on.0;
+      caches = ap (λ (l : Lists). l.caches) led_on.1;
+    }
+
+command_replied : (lists after : Lists) (moment m2 : ℕ) (command : Result Ask CmdFault) (asked : List Asked) (written : List ℕ)
+    → Unfolds (course_of_command m2 command) asked (ended written) → LeadsLists lists (desk_asks moment asked ++ []) after
+    → IsReply (replied lists.caches moment m2 command) asked written after.caches
+command_replied lists after moment m2 (Ok (asks.Cache cache call)) [] written course led = absurd (none-some written (ap end_told course))
+command_replied lists after moment m2 (Ok (asks.Cache cache call)) (a ∷ []) written course led =
+    one_asked lists after moment m2 cache call a.ask a.answer written course.0 (ap reply_told course.1) led
+command_replied lists after moment m2 (Ok (asks.Cache cache call)) (a ∷ b ∷ more) written course led = absurd course.1
+command_replied lists after moment m2 (Err fault) [] written course led =
+    record { text = sym (ap reply_told course); answer = refl; caches = ap (λ (l : Lists). l.caches) led }
+command_replied lists after moment m2 (Err fault) (a ∷ more) written course led = absurd course
+
+-- what an immortal worker did with a packet over plain lists
+abbrev Answering : Lists → Lists → Site → ℕ → Header → List ℕ → Result Answered ServeFault → Type 0
+Answering lists after site moment head block result = AnswersPacket (list_leads lists after) unbounded unbounded site moment head block result
+
+-- the same of a packet that is the generated one by two equations
+as_generated : (lists after : Lists) (site : Site) (moment x : ℕ) (head : Header) (block : List ℕ) (result : Result Answered ServeFault) → head ≡ head_for x → block ≡ block_for x
+    → Answering lists after site moment head block result → Answering lists after site moment (head_for x) (block_for x) result
+as_generated lists after site moment x head block result made filled a =
+    subst (λ (b : List ℕ). Answering lists after site moment (head_for x) b result) filled (subst (λ (h : Header). Answering lists after site moment h block result) made a)
+
+pub generated_answered : (lists after : Lists) (site : Site) (moment x : ℕ) (head : Header) (block : List ℕ) (answered : Answered)
+    → x < 2 ^ 31 → head ≡ head_for x → block ≡ block_for x → header_refusal site.options head ≡ None
+    → AnswersPacket (list_leads lists after) unbounded unbounded site moment head block (Ok answered)
+    → AnswersNumber site.options lists.caches after.caches (packet_for moment x) (Ok answered)
+generated_answered lists after site moment x head block answered small made filled accepted a =
+    let same = as_generated lists after site moment x head block (Ok answered) made filled a in
+    let taken = subst (λ (h : Header). header_refusal site.options h ≡ None) made accepted in
+    let reply = command_replied lists after moment 200 (asked_by site.options (head_for x) (block_for x)) answered.asks answered.reply same.1.0 same.1.1.1 in
+    (generated_is_whole site.options moment x small taken, reply.text, reply.answer, reply.caches)
+
+-- a generated block is never out of its grammar
+pub generated_unbroken : (lists after : Lists) (site : Site) (moment x : ℕ) (head : Header) (block : List ℕ) (at : ℕ)
+    → x < 2 ^ 31 → head ≡ head_for x → block ≡ block_for x
+    → AnswersPacket (list_leads lists after) unbounded unbounded site moment head block (Err (serves.BadBlock at)) → ⊥
+generated_unbroken lists after site moment x head block at small made filled a =
+    let same = as_generated lists after site moment x head block (Err (serves.BadBlock at)) made filled a in
+    none-some at (sym (generated_whole site.options x small) ∙ same.0)
 
 -- ---- packets, one after the other
 
@@ -175,23 +234,20 @@ figures_from-push conf caches f (y ∷ xs) x =
 pub packets_more : (f g : Figures) (answer : Option Answer) (text : List ℕ) (served : ℕ) → g ≡ with_reply f answer text → f.packets ≡ served → g.packets ≡ served + 1
 packets_more f g answer text served more so_far = ap (λ (h : Figures). h.packets) more ∙ ap (λ (n : ℕ). n + 1) so_far
 
--- the answer to the next number of a load, whose number and configuration are known by equations
-as_next : (conf turned : Options) (held after : List ListState) (moment number next : ℕ) (result : Result Replied RunFault)
-    → turned ≡ conf → next ≡ next_number number
-    → AnswersNumber turned held after (packet_for moment next) result → AnswersNumber conf held after (packet_for moment (next_number number)) result
-as_next conf turned held after moment number next result same step a =
-    let stepped = subst (λ (n : ℕ). AnswersNumber turned held after (packet_for moment n) result) step a in
-    subst (λ (c : Options). AnswersNumber c held after (packet_for moment (next_number number)) result) same stepped
+-- the answer to the next number of a load
+as_next : (conf : Options) (held after : List ListState) (moment number next : ℕ) (result : Result Answered RunFault) → next ≡ next_number number
+    → AnswersNumber conf held after (packet_for moment next) result → AnswersNumber conf held after (packet_for moment (next_number number)) result
+as_next conf held after moment number next result step a = subst (λ (n : ℕ). AnswersNumber conf held after (packet_for moment n) result) step a
 
 -- one packet more
 pub one_loaded : {Clk : Type 0} (gave : Clk → Clk → List ℕ → Type 0)
     (gave_more : (a b c : Clk) (early late : List ℕ) → gave a b early → gave b c late → gave a c (early ++ late))
-    (conf turned : Options) (first number next : ℕ) (held after : List ListState) (f g : Figures) (clock mid later : Clk) (moment served : ℕ) (replied : Replied)
-    → turned ≡ conf → next ≡ next_number number → g ≡ with_reply f replied.answer replied.text
+    (conf : Options) (first number next : ℕ) (held after : List ListState) (f g : Figures) (clock mid later : Clk) (moment served : ℕ) (answered : Answered)
+    → next ≡ next_number number → g ≡ with_reply f (answer_behind answered.asks) answered.reply
     → IsLoaded conf first number held f (gave clock mid) served → gave mid later (moment ∷ [])
-    → AnswersNumber turned held after (packet_for moment next) (Ok replied)
+    → AnswersNumber conf held after (packet_for moment next) (Ok answered)
     → IsLoaded conf first next after g (gave clock later) (served + 1)
-one_loaded gave gave_more conf turned first number next held after f g clock mid later moment served replied same step counted s told a =
+one_loaded gave gave_more conf first number next held after f g clock mid later moment served answered step counted s told a =
     let ms = s.moments in
     let empty = empty_caches conf.caches in
     let xs = packets_from first ms in
@@ -199,9 +255,9 @@ one_loaded gave gave_more conf turned first number next held after f g clock mid
     let pushed = packets_from-push first ms moment in
     let reply = reply_of conf (caches_from conf empty xs) x in
     let figures = figures_from conf empty no_figures xs in
-    let stepped = as_next conf turned held after moment number next (Ok replied) same step a in
-    let numbered = subst (λ (n : ℕ). AnswersNumber conf held after (packet_for moment (next_number n)) (Ok replied)) s.last stepped in
-    let is = subst (λ (c : List ListState). AnswersNumber conf c after x (Ok replied)) s.caches numbered in
+    let stepped = as_next conf held after moment number next (Ok answered) step a in
+    let numbered = subst (λ (n : ℕ). AnswersNumber conf held after (packet_for moment (next_number n)) (Ok answered)) s.last stepped in
+    let is = subst (λ (c : List ListState). AnswersNumber conf c after x (Ok answered)) s.caches numbered in
     record {
       moments = ms ++ moment ∷ [];
       answered = subst (λ (ys : List Exchange). AllByRecursion (IsAccepted conf) ys) (sym pushed) (AllByRecursion-push (IsAccepted conf) xs x s.answered is.0);
@@ -210,8 +266,8 @@ one_loaded gave gave_more conf turned first number next held after f g clock mid
       caches = is.3 ∙ sym (ap (λ (ys : List Exchange). caches_from conf empty ys) pushed ∙ caches_from-push conf empty xs x);
       figures =
           counted
-          ∙ ap (λ (h : Figures). with_reply h replied.answer replied.text) s.figures
-          ∙ ap (λ (answer : Option Answer). with_reply figures answer replied.text) is.2
+          ∙ ap (λ (h : Figures). with_reply h (answer_behind answered.asks) answered.reply) s.figures
+          ∙ ap (λ (answer : Option Answer). with_reply figures answer answered.reply) is.2
           ∙ ap (λ (text : List ℕ). with_reply figures reply.answer text) is.1
           ∙ sym (ap (λ (ys : List Exchange). figures_from conf empty no_figures ys) pushed ∙ figures_from-push conf empty no_figures xs x);
       count = length-append ms (moment ∷ []) ∙ ap (λ (n : ℕ). n + 1) s.count;
@@ -226,14 +282,14 @@ unwritten taken faults = record { before = taken; now = taken; faults_before = f
 -- a packet was not answered
 pub load_stops : {Clk : Type 0} (gave : Clk → Clk → List ℕ → Type 0)
     (gave_more : (a b c : Clk) (early late : List ℕ) → gave a b early → gave b c late → gave a c (early ++ late))
-    (conf turned : Options) (first number next count : ℕ) (held after : List ListState) (f : Figures) (taken : Option (List ℕ)) (f0 : ℕ) (clock mid later : Clk) (moment served : ℕ) (fault : RunFault)
-    → turned ≡ conf → next ≡ next_number number → served < count
+    (conf : Options) (first number next count : ℕ) (held after : List ListState) (f : Figures) (taken : Option (List ℕ)) (f0 : ℕ) (clock mid later : Clk) (moment served : ℕ) (fault : RunFault)
+    → next ≡ next_number number → served < count
     → IsLoaded conf first number held f (gave clock mid) served → gave mid later (moment ∷ [])
-    → AnswersNumber turned held after (packet_for moment next) (Err fault)
+    → AnswersNumber conf held after (packet_for moment next) (Err fault)
     → LoadRun conf first count (unwritten taken f0) (gave clock later) (Some fault)
-load_stops gave gave_more conf turned first number next count held after f taken f0 clock mid later moment served (faults.BadPacket packet) same step more s told a =
+load_stops gave gave_more conf first number next count held after f taken f0 clock mid later moment served (faults.BadPacket packet) step more s told a =
     let ms = s.moments in
-    let stepped = as_next conf turned held after moment number next (Err (faults.BadPacket packet)) same step a in
+    let stepped = as_next conf held after moment number next (Err (faults.BadPacket packet)) step a in
     let refused = subst (λ (n : ℕ). AnswersNumber conf held after (packet_for moment (next_number n)) (Err (faults.BadPacket packet))) s.last stepped in
     record {
       moments = ms;
@@ -245,7 +301,7 @@ load_stops gave gave_more conf turned first number next count held after f taken
       written = Gives-none taken;
       ending = (omega (arith, s.count), refl, (moment, packet_for moment (next_number (number_after first ms)), refl, packets_from-push first ms moment, refused));
     }
-load_stops gave gave_more conf turned first number next count held after f taken f0 clock mid later moment served faults.Memory same step more s told a = record {
+load_stops gave gave_more conf first number next count held after f taken f0 clock mid later moment served faults.Memory step more s told a = record {
   moments = s.moments;
   late = moment ∷ [];
   part = [];
@@ -255,7 +311,7 @@ load_stops gave gave_more conf turned first number next count held after f taken
   written = Gives-none taken;
   ending = (refl, omega arith);
 }
-load_stops gave gave_more conf turned first number next count held after f taken f0 clock mid later moment served _ same step more s told a = absurd a
+load_stops gave gave_more conf first number next count held after f taken f0 clock mid later moment served _ step more s told a = absurd a
 
 -- all packets were answered, and this was written
 all_loaded : {Clk : Type 0} (gave : Clk → Clk → List ℕ → Type 0)

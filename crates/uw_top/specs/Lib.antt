@@ -4,6 +4,5 @@ pub mod Load
 pub mod Run
 pub mod PipeSteps
 pub mod LoadSteps
-pub mod ServerSteps
 pub mod RunSteps
 pub mod Laws

@@ -1,18 +1,21 @@
 -- What the parts of a load do.
-use Rattle.std.specs.Prelude.{◌≡◌, ℕ, ◌+◌, ◌*◌, ◌<◌, ◌≤◌, ◌^◌, List, [], ◌∷◌, length, take, Option, None, Some, option_map, Result, Ok, Err}
+use Rattle.std.specs.Prelude.{◌≡◌, ℕ, ◌+◌, ◌*◌, ◌<◌, ◌≤◌, ◌^◌, List, [], ◌∷◌, length, slice_get, take, Option, None, Some, option_map, Result, Ok, Err}
 use Rattle.std.specs.List.{AllByRecursion}
 use Rattle.uw_outside.specs.Faults.{Rose}
 use Rattle.uw_outside.specs.Streams.{Gives}
+use Rattle.uw_model.specs.declared.calls.Answer.{Answer}
+use Rattle.uw_model.specs.declared.asks.Asked.{Asked}
+use Rattle.uw_model.specs.declared.asks.AskAnswer.{AskAnswer}
+use Rattle.uw_model.specs.declared.asks.AskAnswer.TheVariants as ask_answers
 use Rattle.uw_model.specs.ListState.{ListState}
 use Rattle.uw_model.specs.Caches.{empty_caches}
 use Rattle.uw_conf.specs.declared.conf.Options.{Options}
-use Rattle.uw_ends.specs.declared.ends.BadPacket.TheVariants as bad
 use Rattle.uw_ends.specs.declared.ends.RunFault.{RunFault}
 use Rattle.uw_ends.specs.declared.ends.RunFault.TheVariants as faults
 use Rattle.uw_top.specs.declared.load.Figures.{Figures}
-use Rattle.uw_top.specs.declared.server.Replied.{Replied}
+use Rattle.uw_session.specs.declared.answering.Answered.{Answered}
 use Rattle.uw_outside.specs.Streams.{Outflow}
-use Rattle.uw_session.specs.Exchange.{Exchange, IsAccepted, broken_command, header_refusal, asked_by}
+use Rattle.uw_session.specs.Exchange.{Exchange, IsAccepted, header_refusal}
 use Rattle.uw_top.specs.Pipe.{bad_packet_of}
 use Rattle.uw_top.specs.Replying.{reply_of}
 use Rattle.uw_top.specs.Load.{figures_from, next_number, no_figures, packets_from}
@@ -22,19 +25,18 @@ abbrev pub caches_from : Options → List ListState → List Exchange → List L
 caches_from conf caches [] = caches
 caches_from conf caches (x ∷ xs) = caches_from conf (reply_of conf caches x).caches xs
 
--- a command's packet was answered by its reply, and the caches are those after it; or its block is out of its grammar; or there was no memory
-abbrev pub RepliesTo : Options → List ListState → List ListState → Exchange → Result Replied RunFault → Type 0
-RepliesTo conf caches after x (Ok replied) =
-    (replied.text ≡ (reply_of conf caches x).text) × (replied.answer ≡ (reply_of conf caches x).answer) × (after ≡ (reply_of conf caches x).caches)
-    × (broken_command (asked_by conf x.head x.block) ≡ None)
-RepliesTo conf caches after x (Err (faults.BadPacket (bad.BadBlock at))) = broken_command (asked_by conf x.head x.block) ≡ Some at
-RepliesTo conf caches after x (Err faults.Memory) = Unit {0}
-RepliesTo conf caches after x (Err _) = ⊥
+-- the answer of a command's one ask; a refused command asks nothing
+abbrev pub answer_behind : List Asked → Option Answer
+answer_behind asked = option_map (λ (a : Asked). of_cache a.answer) (slice_get asked 0)
+  where
+    of_cache : AskAnswer → Answer
+    of_cache (ask_answers.Cache answer) = answer
 
 -- a packet was answered, or its header is refused, or there was no memory
-abbrev pub AnswersNumber : Options → List ListState → List ListState → Exchange → Result Replied RunFault → Type 0
-AnswersNumber conf caches after x (Ok replied) =
-    IsAccepted conf x × (replied.text ≡ (reply_of conf caches x).text) × (replied.answer ≡ (reply_of conf caches x).answer) × (after ≡ (reply_of conf caches x).caches)
+abbrev pub AnswersNumber : Options → List ListState → List ListState → Exchange → Result Answered RunFault → Type 0
+AnswersNumber conf caches after x (Ok answered) =
+    IsAccepted conf x × (answered.reply ≡ (reply_of conf caches x).text) × (answer_behind answered.asks ≡ (reply_of conf caches x).answer)
+    × (after ≡ (reply_of conf caches x).caches)
 AnswersNumber conf caches after x (Err (faults.BadPacket packet)) = option_map bad_packet_of (header_refusal conf x.head) ≡ Some packet
 AnswersNumber conf caches after x (Err faults.Memory) = Unit {0}
 AnswersNumber conf caches after x (Err _) = ⊥

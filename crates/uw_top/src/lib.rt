@@ -6,7 +6,6 @@ pub mod laws;
 mod load;
 mod pipe;
 mod runs;
-mod server;
 
 pub use runs::run;
 pub use uw_ends::{BadPacket, Brief, BriefList, RunEnd, RunFault, fault_text};

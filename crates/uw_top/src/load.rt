@@ -1,21 +1,26 @@
 // The command `load`: packets that a generator makes, and the figures of their replies.
-ghost use Rattle.std.specs.Prelude.{◌≡◌, ◌<◌, ◌^◌, ◌++◌, length, IfOk, OnOk};
+ghost use Rattle.std.specs.Prelude.{◌≡◌, ◌<◌, ◌≤◌, ◌^◌, ◌++◌, length, option_copied, IfOk, OnOk};
 ghost use Rattle.std.specs.Fmt.{decimal};
 ghost use Rattle.uw_outside.specs.Streams.{outflow};
-ghost use Rattle.uw_conf.specs.Given.{options_in};
+ghost use Rattle.uw_model.specs.Caches.{empty_caches};
+ghost use Rattle.uw_rules.specs.CacheNumbers.{AskCachesBelow};
+ghost use Rattle.uw_rules.specs.Compiled.{rules_of};
+ghost use Rattle.uw_chain.specs.KeptSearches.{FitTable};
 ghost use Rattle.uw_conf.specs.Sound.{AreCaches};
+ghost use Rattle.uw_session.specs.Exchange.{IsSiteOf, Site};
 ghost use Rattle.uw_top.specs.Load.{LoadRun, block_for, command_for, figure_line, figures_text, head_for, next_number, no_figures, packet_for, variables_for, with_reply};
-ghost use Rattle.uw_top.specs.LoadSteps.{AnswersNumber, AreCounted, CanCount, WritesText};
+ghost use Rattle.uw_top.specs.LoadSteps.{AnswersNumber, AreCounted, CanCount, WritesText, answer_behind};
 
-use crate::server::{Replied, Server};
 use itoa::Buffer;
 use std::alloc::Global;
 use uw_base::{Bytes, Memory, Pair, Vars, put_decimal};
+use uw_chain::Searches;
 use uw_conf::Conf;
-use uw_ends::RunFault;
-use uw_model::Answer;
-use uw_outside::{Clock, Sink, put_all};
+use uw_ends::{BadPacket, RunFault};
+use uw_model::{Answer, AskAnswer, ListDesk};
+use uw_outside::{Clock, Immortal, Sink, put_all};
 use uw_packet::{Header, Packet, write_vars};
+use uw_session::{Answered, ServeFault, answer_packet};
 
 /// How many packets were answered, how many of the replies were of each kind, and the bytes of all replies.
 #[derive(Clone, Copy, Debug, PartialEq, Eq)]
@@ -104,21 +109,45 @@ fn packet_for(alloc: Global, x: u64) -> Result<Packet, Memory>
 }
 
 // Answers the packet that a number makes.
-fn answer_number(
+fn answer_number<'c>(
     alloc: Global,
-    server: &mut Server,
+    searches: &mut Searches<'c>,
+    conf: &'c Conf,
+    desk: &mut ListDesk,
     x: u64,
     moment: u64,
-) -> Result<Replied, RunFault>
-    requires { x < 2 ^ 31 }
-    ensures answer { AnswersNumber server.old.conf server.old.caches server.new.caches (packet_for moment x) result }
-    ensures conf { server.new.conf ≡ server.old.conf }
+) -> Result<Answered, RunFault>
+    requires number { x < 2 ^ 31 }
+    requires few { length conf.now.caches < 2 ^ 32 }
+    requires enough { length conf.now.caches ≤ length desk.old.caches }
+    requires fits { FitTable conf.now.routes searches.old }
+    requires known { AskCachesBelow (length desk.old.caches) (rules_of conf.now.routes) }
+    ensures answer { (site : Site) → IsSiteOf conf.now site → AnswersNumber site.options desk.old.caches desk.new.caches (packet_for moment x) result }
+    ensures fits { FitTable conf.now.routes searches.new }
+    ensures caches { length desk.new.caches ≡ length desk.old.caches }
 {
     let packet = packet_for(alloc, x)?;
-    match server.judge(&packet.head) {
-        None => server.reply(alloc, moment, &packet),
-        Some(refused) => Err(RunFault::BadPacket(refused)),
+    let size = u32::from(packet.head.size);
+    let limit = conf.buffer_size;
+    if size > limit {
+        return Err(RunFault::BadPacket(BadPacket::TooBig { size, limit }));
     }
+    let life = &mut Immortal::new();
+    match answer_packet(alloc, searches, conf, moment, &packet, life, desk) {
+        Ok(answered) => Ok(answered),
+        Err(ServeFault::BadBlock { at }) => Err(RunFault::BadPacket(BadPacket::BadBlock { at })),
+        // An immortal worker does not die, so what is left is want of memory.
+        Err(_) => Err(RunFault::Memory),
+    }
+}
+
+// The answer of a packet's ask; a refused command asks nothing.
+fn answer_of(answered: &Answered) -> Option<&Answer>
+    ensures { option_copied result ≡ answer_behind answered.now.asks }
+{
+    let asked = answered.asks.as_slice().first()?;
+    let AskAnswer::Cache(answer) = &asked.answer;
+    Some(answer)
 }
 
 impl Figures {
@@ -136,15 +165,15 @@ impl Figures {
         }
     }
 
-    // Counts a reply.
-    fn count(&mut self, replied: &Replied)
+    // Counts a packet that was answered.
+    fn count(&mut self, answered: &Answered)
         requires { CanCount self.old }
-        ensures more { self.new ≡ with_reply self.old replied.now.answer replied.now.text }
+        ensures more { self.new ≡ with_reply self.old (answer_behind answered.now.asks) answered.now.reply }
         ensures counted { AreCounted self.new }
     {
         self.packets += 1;
-        self.bytes += replied.text.len() as u128;
-        match replied.answer {
+        self.bytes += answered.reply.len() as u128;
+        match answer_of(answered) {
             Some(Answer::Value(_)) => self.value += 1,
             Some(Answer::Missing) => self.missing += 1,
             Some(Answer::Done) => self.ok += 1,
@@ -189,22 +218,59 @@ pub fn load<K: Sink, C: Clock>(
     clock: &mut C,
 ) -> Option<RunFault>
     requires caches { AreCaches conf.caches }
+    requires known { AskCachesBelow (length conf.caches) (rules_of conf.routes) }
     requires first { first < 2 ^ 31 }
-    ensures { LoadRun (options_in conf) first count
+    ensures { (site : Site) → IsSiteOf conf site → LoadRun site.options first count
         (outflow K.taken K.faults snk.old snk.new)
         (C.gave clock.old clock.new) result }
 {
-    let mut server = match Server::new(alloc, conf) {
-        Ok(server) => server,
+    let mut desk = match ListDesk::new(alloc, &conf.caches) {
+        Ok(desk) => desk,
         Err(_) => return Some(RunFault::Memory),
     };
+    let mut searches = match Searches::new(alloc, &conf.routes) {
+        Ok(searches) => searches,
+        Err(_) => return Some(RunFault::Memory),
+    };
+    load_with(
+        alloc,
+        &mut searches,
+        &conf,
+        &mut desk,
+        first,
+        count,
+        snk,
+        clock,
+    )
+}
+
+// The same, by searches and caches that are made.
+fn load_with<'c, K: Sink, C: Clock>(
+    alloc: Global,
+    searches: &mut Searches<'c>,
+    conf: &'c Conf,
+    desk: &mut ListDesk,
+    first: u64,
+    count: u64,
+    snk: &mut K,
+    clock: &mut C,
+) -> Option<RunFault>
+    requires few { length conf.now.caches < 2 ^ 32 }
+    requires empty { desk.old.caches ≡ empty_caches conf.now.caches }
+    requires fits { FitTable conf.now.routes searches.old }
+    requires known { AskCachesBelow (length desk.old.caches) (rules_of conf.now.routes) }
+    requires first { first < 2 ^ 31 }
+    ensures { (site : Site) → IsSiteOf conf.now site → LoadRun site.options first count
+        (outflow K.taken K.faults snk.old snk.new)
+        (C.gave clock.old clock.new) result }
+{
     let mut figures = Figures::new();
     let mut x = first;
     for served in 0..count {
         x = next_number(x);
         let moment = clock.now();
-        match answer_number(alloc, &mut server, x, moment) {
-            Ok(replied) => figures.count(&replied),
+        match answer_number(alloc, searches, conf, desk, x, moment) {
+            Ok(answered) => figures.count(&answered),
             Err(fault) => return Some(fault),
         }
     }
