@@ -30,7 +30,7 @@ pub fn replies_over_lists_are_a_function()
 
 /// Two runs over the same site and the same bytes, neither of which ended by want of memory, a failed read or a failed
 /// write, served the same packets, each at its own moments, and ended by the same fault.
-pub fn bytes_and_moments_tell_how_a_run_ends<C: Clock, D: Clock>()
+pub fn bytes_tell_how_a_run_ends<C: Clock, D: Clock>()
     ensures { (site : Site) (start begin : Lists) (allowed more : Option (List ℕ)) (src from : Inflow) (snk into : Outflow) (clock now : C) (other_clock other_now : D)
         (told said : List Brief) (fault other : Option RunFault) (bytes : List ℕ)
         → (run : PipeRun list_leads start allowed site src snk (C.gave clock now) told fault)

@@ -1,6 +1,6 @@
 use Rattle.uw_top.specs.Pipe.{list_leads}
 use Rattle.uw_top.proofs.SameEndLemmas.{same_end}
-use Rattle.uw_top.proofs.laws.bytes_and_moments_tell_how_a_run_ends.Goals as goal
+use Rattle.uw_top.proofs.laws.bytes_tell_how_a_run_ends.Goals as goal
 
 pub returns : goal.returns
 returns g c = λ site start begin allowed more src from snk into clock now other_clock other_now told said fault other bytes run again is same of too.
