@@ -90,59 +90,8 @@ const PIPE: Case = Case {
     text: b"",
 };
 
-const CASES: [Case; 52] = [
+const CASES: [Case; 45] = [
     PIPE,
-    // Requests through rules, with a jump and a cached page.
-    Case {
-        conf: b"[uwsgi]\ncache2 = name=c,items=4,blocksize=64\nroute-run = addheader:X-Via: uw\nroute = ^/go/(.+)$ goto:there\nroute = ^/c/(.+)$ cache:key=$1,content_type=text/plain\nroute-run = break:404 Not Found\nroute-label = there\nroute-run = send:there ${PATH_INFO}\n",
-        input: b"o\x06\x00\x01\x01\x00k\x01\x00v\x00\x12\x00\x00\x09\x00PATH_INFO\x05\x00/go/x\x00\x11\x00\x00\x09\x00PATH_INFO\x04\x00/c/k\x00\x11\x00\x00\x09\x00PATH_INFO\x04\x00/c/z\x00\x0f\x00\x00\x09\x00PATH_INFO\x02\x00/q",
-        output: b"\x02\x00\x00\x00ok=\x00\x00\x00HTTP/1.1 200 OK\r\nX-Via: uw\r\nContent-Length: 11\r\n\r\nthere /go/xL\x00\x00\x00HTTP/1.1 200 OK\r\nX-Via: uw\r\nContent-Type: text/plain\r\nContent-Length: 1\r\n\r\nv8\x00\x00\x00HTTP/1.1 404 Not Found\r\nX-Via: uw\r\nContent-Length: 0\r\n\r\n8\x00\x00\x00HTTP/1.1 404 Not Found\r\nX-Via: uw\r\nContent-Length: 0\r\n\r\n",
-        ..PIPE
-    },
-    // A body is passed over.
-    Case {
-        conf: b"[uwsgi]\ncache2 = name=c,items=4,blocksize=64\n",
-        input: b"\x00\x13\x00\x00\x0e\x00CONTENT_LENGTH\x01\x002abo\x01\x00\x00k",
-        output: b"V\x00\x00\x00HTTP/1.1 404 Not Found\r\nContent-Type: text/plain\r\nContent-Length: 14\r\n\r\n404 Not Found\n\x00\x00\x00\x00",
-        ..PIPE
-    },
-    // A body is cut, or its length cannot be read.
-    Case {
-        conf: b"[uwsgi]\ncache2 = name=c,items=4,blocksize=64\n",
-        input: b"\x00\x13\x00\x00\x0e\x00CONTENT_LENGTH\x01\x002a",
-        status: 5,
-        text: b"truncated: got 1, want 2",
-        ..PIPE
-    },
-    Case {
-        conf: b"[uwsgi]\ncache2 = name=c,items=4,blocksize=64\n",
-        input: b"\x00\x13\x00\x00\x0e\x00CONTENT_LENGTH\x01\x00x",
-        status: 6,
-        text: b"bad content length",
-        ..PIPE
-    },
-    Case {
-        conf: b"[uwsgi]\ncache2 = name=c,items=4,blocksize=64\n",
-        input: b"\x00\x1c\x00\x00\x0e\x00CONTENT_LENGTH\n\x001073741825",
-        status: 6,
-        text: b"bad content length",
-        ..PIPE
-    },
-    // A block ends behind a key.
-    Case {
-        conf: b"[uwsgi]\ncache2 = name=c,items=4,blocksize=64\n",
-        input: b"\x00\x06\x00\x00\x01\x00A\x02\x00B",
-        status: 6,
-        text: b"bad block at 3",
-        ..PIPE
-    },
-    // Variables that are reckoned.
-    Case {
-        conf: b"[uwsgi]\ncache2 = name=c,items=4,blocksize=64\nroute-run = send:${time[unix]} ${httptime[0]} ${base64[A]} ${qs[q]}\n",
-        input: b"\x00<\x00\x00\x01\x00A\x06\x00foobar\x0c\x00QUERY_STRING\x0b\x00p=1&q=a%20b\x0e\x00REQUEST_METHOD\x04\x00HEAD",
-        output: b"'\x00\x00\x00HTTP/1.1 200 OK\r\nContent-Length: 45\r\n\r\n",
-        ..PIPE
-    },
     // Rules that are refused, and rules that are taken.
     Case {
         conf: b"[uwsgi]\nroute-label = a\nroute-run = goto:a\n",
