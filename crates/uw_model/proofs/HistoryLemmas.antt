@@ -15,17 +15,18 @@ use Rattle.uw_model.specs.declared.asks.AskAnswer.TheVariants as ask_answers
 use Rattle.uw_model.specs.Calls.{answer, next_state}
 use Rattle.uw_model.specs.ListState.{ListState}
 use Rattle.uw_model.specs.Asks.{Asking, counted_answer}
-use Rattle.uw_model.specs.Caches.{Lists, LeadsLists, answer_of, caches_after, empty_caches, lists_after}
+use Rattle.uw_model.specs.Caches.{caches_after, empty_caches}
+use Rattle.uw_model.specs.Lists.{Lists, LeadsLists, answer_of, lists_after}
 use Rattle.uw_model.specs.History.{Answered, answer_at_from, history_of, replay_from, with_ask}
 
 module _ {X : Type 0} where
-  found_same : (xs : List X) (i : ℕ) (x y : X) → slice_get xs i ≡ Some x → slice_get (set xs i y) i ≡ Some y
+  pub found_same : (xs : List X) (i : ℕ) (x y : X) → slice_get xs i ≡ Some x → slice_get (set xs i y) i ≡ Some y
   found_same xs i x y here =
       let within : i < length xs = slice_get_within xs i x here in
       let long : length xs ≡ length (set xs i y) = sym (length-set xs i y) in
       slice_get_read (set xs i y) (length xs) i y long within (sym (get_or-set_same xs i y y within))
 
-  found_other : (xs : List X) (i j : ℕ) (x y : X) → j ≢ i → slice_get xs j ≡ Some x → slice_get (set xs i y) j ≡ Some x
+  pub found_other : (xs : List X) (i j : ℕ) (x y : X) → j ≢ i → slice_get xs j ≡ Some x → slice_get (set xs i y) j ≡ Some x
   found_other xs i j x y apart here =
       let long : length xs ≡ length (set xs i y) = sym (length-set xs i y) in
       slice_get_read (set xs i y) (length xs) j x long (slice_get_within xs j x here) (sym (get_or-set_other xs i j y x apart ∙ get_or_from_slice_get xs j x x here))
@@ -89,8 +90,14 @@ module _ (cache : ℕ) (asked : List Asking) (now : Lists)
   behind : (before : Lists) (c : ListState) (moment : ℕ) (ask : Ask) (counted : Option AskAnswer)
       → IfSome counted (λ given. given ≡ answer_of before moment ask) → LeadsLists (cond (is_some counted) (lists_after before moment ask) before) asked now
       → slice_get before.caches cache ≡ Some c → Behind c moment ask counted
-  behind before c moment ask None said led here = later before c led here
+  behind before c moment (asks.Cache number call) None said led here = later before c led here
   behind before c moment (asks.Cache number call) (Some (ask_answers.Cache given)) said led here = behind_counted before c moment number call given said led here
+  behind before c moment (asks.Cache number call) (Some (ask_answers.Area given)) said led here = cc
+  behind before c moment (asks.Cache number call) (Some (ask_answers.Spool given)) said led here = cc
+  behind before c moment (asks.Area number op) None said led here = later before c led here
+  behind before c moment (asks.Area number op) (Some given) said led here = later (lists_after before moment (asks.Area number op)) c led here
+  behind before c moment (asks.Spool vars body) None said led here = later before c led here
+  behind before c moment (asks.Spool vars body) (Some given) said led here = later before c led here
 
 pub asks_replayed : (before now : Lists) (asked : List Asking) (cache : ℕ) (c : ListState) → LeadsLists before asked now → slice_get before.caches cache ≡ Some c → IsReplayed before asked now cache c
 asks_replayed before now [] cache c led here = (ap (λ (lists : Lists). slice_get lists.caches cache) led ∙ here, λ place. refl)

@@ -8,6 +8,9 @@ pub mod PlacedLemmas
 pub mod NextStateLemmas
 pub mod LawLemmas
 pub mod MathLemmas
+pub mod AskLemmas
 pub mod CachesLemmas
 pub mod HistoryLemmas
+pub mod AreaHistoryLemmas
+pub mod AreaLemmas
 pub mod WrittenLemmas

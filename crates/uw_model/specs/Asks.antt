@@ -15,7 +15,7 @@ pub data AskEnd : Type 0 where
   died_absent : AskEnd
   no_memory : AskEnd
 
--- an ask, its moment and how it ended; for an ask of an area the moment counts for nothing
+-- an ask, its moment and how it ended; for an ask of an area or of the spool the moment counts for nothing
 pub record Asking : Type 0 where
   pub moment : ℕ
   pub ask : Ask
@@ -45,21 +45,34 @@ has_died (Ok answer) = false
 has_died (Err (faults.Died whole)) = true
 has_died (Err faults.Memory) = false
 
--- an ask that a desk is asked
+-- an ask that a desk is asked; one of the spool is none
 abbrev pub is_of_desk : Ask → Bool
 is_of_desk (asks.Cache cache call) = true
+is_of_desk (asks.Area area op) = true
+is_of_desk (asks.Spool vars body) = false
 
--- of asks with their answers, at one moment, those that a desk is asked
-abbrev pub desk_asks : ℕ → List Asked → List Asking
-desk_asks moment asked = map (λ (a : Asked). record { moment = moment; ask = a.ask; end = answered a.answer }) (filter (λ (a : Asked). is_of_desk a.ask) asked)
+-- of asks, those that a desk is asked
+abbrev pub of_desk : List Asking → List Asking
+of_desk asked = filter (λ (a : Asking). is_of_desk a.ask) asked
 
--- an ask of one of so many caches
-abbrev pub IsOfOneOf : ℕ → Ask → Type 0
-IsOfOneOf caches (asks.Cache cache call) = cache < caches
+-- asks with their answers, at one moment
+abbrev pub answered_at : ℕ → List Asked → List Asking
+answered_at moment asked = map (λ (a : Asked). record { moment = moment; ask = a.ask; end = answered a.answer }) asked
 
--- asks that were answered led the desk on at one moment, and behind them others that ended as they say; the life let through the word writes that were made for them
+-- how many caches and how many areas a desk has
+pub record DeskParts : Type 0 where
+  pub caches : ℕ
+  pub areas : ℕ
+
+-- an ask of a cache or an area that a desk has
+abbrev pub IsOfPart : DeskParts → Ask → Type 0
+IsOfPart parts (asks.Cache cache call) = cache < parts.caches
+IsOfPart parts (asks.Area area op) = area < parts.areas
+IsOfPart parts (asks.Spool vars body) = ⊥
+
+-- asks that were answered led on at one moment, and behind them others that ended as they say; the life let through the word writes that were made for them
 abbrev pub Led : (List Asking → ℕ → Type 0) → Option (List ℕ) → Option (List ℕ) → ℕ → List Asked → List Asking → Type 0
-Led led before now moment asked others = (writes : ℕ) × led (desk_asks moment asked ++ others) writes × Spends before now writes
+Led led before now moment asked others = (writes : ℕ) × led (answered_at moment asked ++ others) writes × Spends before now writes
 
 -- no ask was made, or one that found no memory
 abbrev pub IsUnanswered : (List Asking → ℕ → Type 0) → Option (List ℕ) → Option (List ℕ) → ℕ → Ask → Type 0

@@ -1,6 +1,6 @@
 -- The history of a cache: the calls in their order, the list that they leave, and the answer at a place. Moments need not rise.
 -- What stands in a history is of any type, of which two functions tell the moment and the call.
-use Rattle.std.specs.Prelude.{ℕ, ◌==◌, if◌then◌else◌, List, [], ◌∷◌, take, slice_get, Option, None, Some}
+use Rattle.std.specs.Prelude.{ℕ, ◌==◌, if◌then◌else◌, List, [], ◌∷◌, take, slice_get, Option, Some}
 use Rattle.std.specs.Option.{option_map}
 use Rattle.uw_model.specs.declared.conf.CacheConf.{CacheConf}
 use Rattle.uw_model.specs.declared.entries.Entry.{Entry}
@@ -40,9 +40,9 @@ pub record Answered : Type 0 where
 
 -- an ask in front of a cache's history: it counts where it is of this cache and has an answer
 abbrev pub with_ask : ℕ → ℕ → Ask → Option AskAnswer → List Answered → List Answered
-with_ask cache moment ask None history = history
 with_ask cache moment (asks.Cache number call) (Some (ask_answers.Cache answer)) history =
     if number == cache then record { moment = moment; call = call; answer = answer } ∷ history else history
+with_ask cache moment ask answer history = history
 
 -- the history of one cache among asks: those of it that count, in their order, with their answers
 abbrev pub history_of : ℕ → List Asking → List Answered

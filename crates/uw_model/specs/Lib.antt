@@ -1,10 +1,16 @@
 pub mod Entries
 pub mod Placement
 pub mod Calls
+pub mod AreaLimits
+pub mod AreaOps
 pub mod History
+pub mod AreaHistory
 pub mod PlacementSteps
 pub mod KeySteps
 pub mod ListState
 pub mod Laws
 pub mod Asks
 pub mod Caches
+pub mod Areas
+pub mod Lists
+pub mod AreaLaws

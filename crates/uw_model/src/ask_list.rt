@@ -1,12 +1,17 @@
 // Asks with their answers.
-ghost use Rattle.std.specs.Prelude.{◌≡◌, ◌<◌, [], length, not, true, false};
+ghost use Rattle.std.specs.Prelude.{◌≡◌, ◌<◌, ◌++◌, ◌∷◌, List, [], length, not, true, false, OnOk, OnErr};
 ghost use Rattle.uw_outside.specs.Faults.{HasCause};
-ghost use Rattle.uw_model.specs.Asks.{IsOfOneOf, MakesAsk, has_died};
+ghost use Rattle.uw_model.specs.declared.asks.Asked.{Asked};
+ghost use Rattle.uw_model.specs.declared.asks.Ask.TheVariants as asks;
+ghost use Rattle.uw_model.specs.declared.asks.AskAnswer.TheVariants as ask_answers;
+ghost use Rattle.uw_model.specs.declared.asks.SpoolAnswer.TheVariants as spools;
+ghost use Rattle.uw_model.specs.Asks.{IsOfPart, MakesAsk, has_died};
 
-use crate::asks::{Ask, Asked};
+use crate::asks::{Ask, AskAnswer, Asked, SpoolAnswer};
 use crate::desk::{Desk, DeskFault, make_ask};
 use std::alloc::Global;
 use std::marker::Model;
+use uw_base::{Bytes, Memory, Vars};
 use uw_outside::Life;
 
 /// Asks with their answers, in the order in which they were made.
@@ -57,12 +62,12 @@ impl AskList {
         ask: Ask,
         life: &mut L,
     ) -> Result<(), DeskFault>
-        requires known { IsOfOneOf (D.caches desk.old) ask }
+        requires known { IsOfPart (D.parts desk.old) ask }
         requires alive { L.alive life.old ≡ true }
         ensures asked { MakesAsk (D.leads desk.old desk.new) (L.allowances life.old) (L.allowances life.new) moment ask self.old self.new result }
         ensures cause { HasCause (L.deaths life.old) (L.deaths life.new) (has_died result) }
         ensures alive { L.alive life.new ≡ not (has_died result) }
-        ensures caches { D.caches desk.new ≡ D.caches desk.old }
+        ensures parts { D.parts desk.new ≡ D.parts desk.old }
         ensures settled { D.settled desk.old ≡ true → has_died result ≡ false → D.settled desk.new ≡ true }
     {
         match self.asked.reserve(1) {
@@ -72,5 +77,34 @@ impl AskList {
         let answer = make_ask(alloc, desk, moment, &ask, life)?;
         self.asked.push_reserved(Asked { ask, answer });
         Ok(())
+    }
+
+    /// Puts an ask of the spool at the end before it is made, so that room for it and its answer is taken. Until it is
+    /// answered, it counts as failed.
+    pub fn open(&mut self, vars: Vars, body: Bytes) -> Result<(), Memory>
+        ensures ok { OnOk result (self.new ≡ self.old ++ record { ask = asks.Spool vars body; answer = ask_answers.Spool spools.Failed } ∷ []) }
+        ensures err { OnErr result (self.new ≡ self.old) }
+    {
+        let ask = Ask::Spool { vars, body };
+        let answer = AskAnswer::Spool(SpoolAnswer::Failed);
+        self.asked.push(Asked { ask, answer })?;
+        Ok(())
+    }
+
+    /// Answers the last ask.
+    pub fn answer_last(&mut self, answer: AskAnswer)
+        requires { 0 < length self.old }
+        ensures { (front : List Asked) (last : Asked) → self.old ≡ front ++ last ∷ [] → self.new ≡ front ++ record { ask = last.ask; answer = answer } ∷ [] }
+    {
+        let last = self.asked.len() - 1;
+        self.asked[last].answer = answer;
+    }
+
+    /// Takes the last ask out again, which was not made.
+    pub fn cancel_last(&mut self)
+        requires { 0 < length self.old }
+        ensures { (front : List Asked) (last : Asked) → self.old ≡ front ++ last ∷ [] → self.new ≡ front }
+    {
+        self.asked.pop();
     }
 }

@@ -10,9 +10,11 @@ ghost use Rattle.uw_model.specs.Entries.{IsCacheConf, IsState, covers, max_value
 ghost use Rattle.uw_model.specs.Placement.{is_free, first_run, room};
 ghost use Rattle.uw_model.specs.Calls.{answer, next_state, alive_at, bytes_of_number, dies_at, dies_of_number};
 ghost use Rattle.uw_model.specs.ListState.{ListState};
-ghost use Rattle.uw_model.specs.Asks.{Asking, desk_asks};
+ghost use Rattle.uw_model.specs.AreaHistory.{AnsweredOp, area_answer_at, area_answer_at_from, area_history_of, area_replay, area_replay_from};
+ghost use Rattle.uw_model.specs.AreaOps.{AreaState};
+ghost use Rattle.uw_model.specs.Asks.{Asking, answered_at, of_desk};
 ghost use Rattle.uw_model.specs.declared.asks.Asked.{Asked};
-ghost use Rattle.uw_model.specs.Caches.{Lists, LeadsLists, empty_caches};
+ghost use Rattle.uw_model.specs.Lists.{Lists, LeadsLists, empty_lists};
 ghost use Rattle.uw_model.specs.History.{Answered, answer_at, answer_at_from, history_of, replay, replay_from};
 ghost use Rattle.uw_model.specs.Laws.{is_refusal, IsLeastRun, IsLongestFront, IsWritten, list_after_amounts, TakesAmounts};
 
@@ -115,8 +117,9 @@ pub fn number_is_the_sum_of_the_amounts()
         ≡ answers.Number (fold ◌+ℤ◌ before amounts) }
 {}
 
-/// Asks that lead from lists to lists leave in each cache the replay of its history, from its list on, and each of them
-/// that counts was answered as the call at its place.
+/// Asks that lead from lists to lists leave in each cache the replay of its history, from its list on, and in each area
+/// the replay of its own, from its bytes on; and each of them that counts was answered as the call or the operation at
+/// its place.
 pub fn asks_leave_the_replay()
     ensures list { (before now : Lists) (asked : List Asking) (cache : ℕ) (c : ListState)
         → LeadsLists before asked now → slice_get before.caches cache ≡ Some c
@@ -126,23 +129,39 @@ pub fn asks_leave_the_replay()
         → LeadsLists before asked now → slice_get before.caches cache ≡ Some c
         → answer_at_from (λ (m : Answered). m.moment) (λ (m : Answered). m.call) c.conf c.list (history_of cache asked) place
         ≡ option_map (λ (m : Answered). m.answer) (slice_get (history_of cache asked) place) }
+    ensures area { (before now : Lists) (asked : List Asking) (area : ℕ) (a : AreaState)
+        → LeadsLists before asked now → slice_get before.areas area ≡ Some a
+        → slice_get now.areas area ≡ Some (area_replay_from (λ (m : AnsweredOp). m.op) a (area_history_of area asked)) }
+    ensures area_answers { (before now : Lists) (asked : List Asking) (area place : ℕ) (a : AreaState)
+        → LeadsLists before asked now → slice_get before.areas area ≡ Some a
+        → area_answer_at_from (λ (m : AnsweredOp). m.op) a (area_history_of area asked) place
+        ≡ option_map (λ (m : AnsweredOp). m.answer) (slice_get (area_history_of area asked) place) }
 {}
 
-/// The same of caches that are empty at first.
-pub fn asks_of_empty_caches_leave_the_replay()
-    ensures list { (confs : List CacheConf) (now : Lists) (asked : List Asking) (cache : ℕ) (conf : CacheConf)
-        → LeadsLists (record { caches = empty_caches confs }) asked now → slice_get confs cache ≡ Some conf
+/// The same of caches that are empty at first, and of areas whose bytes are 0.
+pub fn asks_of_empty_lists_leave_the_replay()
+    ensures list { (confs : List CacheConf) (sizes : List ℕ) (now : Lists) (asked : List Asking) (cache : ℕ) (conf : CacheConf)
+        → LeadsLists (empty_lists confs sizes) asked now → slice_get confs cache ≡ Some conf
         → slice_get now.caches cache
         ≡ Some (record { conf = conf; list = replay (λ (m : Answered). m.moment) (λ (m : Answered). m.call) conf (history_of cache asked) }) }
-    ensures answers { (confs : List CacheConf) (now : Lists) (asked : List Asking) (cache place : ℕ) (conf : CacheConf)
-        → LeadsLists (record { caches = empty_caches confs }) asked now → slice_get confs cache ≡ Some conf
+    ensures answers { (confs : List CacheConf) (sizes : List ℕ) (now : Lists) (asked : List Asking) (cache place : ℕ) (conf : CacheConf)
+        → LeadsLists (empty_lists confs sizes) asked now → slice_get confs cache ≡ Some conf
         → answer_at (λ (m : Answered). m.moment) (λ (m : Answered). m.call) conf (history_of cache asked) place
         ≡ option_map (λ (m : Answered). m.answer) (slice_get (history_of cache asked) place) }
+    ensures area { (confs : List CacheConf) (sizes : List ℕ) (now : Lists) (asked : List Asking) (area size : ℕ)
+        → LeadsLists (empty_lists confs sizes) asked now → slice_get sizes area ≡ Some size
+        → slice_get now.areas area ≡ Some (area_replay (λ (m : AnsweredOp). m.op) size (area_history_of area asked)) }
+    ensures area_answers { (confs : List CacheConf) (sizes : List ℕ) (now : Lists) (asked : List Asking) (area place size : ℕ)
+        → LeadsLists (empty_lists confs sizes) asked now → slice_get sizes area ≡ Some size
+        → area_answer_at (λ (m : AnsweredOp). m.op) size (area_history_of area asked) place
+        ≡ option_map (λ (m : AnsweredOp). m.answer) (slice_get (area_history_of area asked) place) }
 {}
 
-/// Two lists of asks in a row, at one moment, ask a desk what the one asks and then what the other asks.
+/// Two lists of asks in a row ask a desk what the one asks and then what the other asks, and were answered at one moment
+/// where each of them was.
 pub fn asks_of_a_desk_add_up()
-    ensures { (moment : ℕ) (early late : List Asked) → desk_asks moment (early ++ late) ≡ desk_asks moment early ++ desk_asks moment late }
+    ensures of_desk { (early late : List Asking) → of_desk (early ++ late) ≡ of_desk early ++ of_desk late }
+    ensures answered { (moment : ℕ) (early late : List Asked) → answered_at moment (early ++ late) ≡ answered_at moment early ++ answered_at moment late }
 {}
 
 /// A list without entries has room for every value that is not too long.

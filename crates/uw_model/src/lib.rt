@@ -1,7 +1,9 @@
-//! What a cache is: its entries and calls as definitions, and the plain list that answers by them. And the desk, through
-//! which a request asks the caches of a site.
+//! What a cache and a shared area are: their entries and bytes, calls and operations as definitions, and the plain forms
+//! that answer by them. And the desk, through which a request asks the caches and the areas of a site.
 #![tactic(auto)]
 
+pub mod area_laws;
+pub mod areas;
 mod ask_list;
 pub mod asks;
 mod cache_list;
@@ -11,6 +13,7 @@ pub mod desk;
 pub mod entries;
 mod keys;
 pub mod laws;
+mod list_area;
 mod list_cache;
 mod list_desk;
 mod numbers;
@@ -18,12 +21,14 @@ mod placement;
 mod sizes;
 mod steps;
 
+pub use areas::{AreaAnswer, AreaBytes, AreaOp, Width};
 pub use ask_list::AskList;
-pub use asks::{Ask, AskAnswer, Asked};
+pub use asks::{Ask, AskAnswer, Asked, SpoolAnswer};
 pub use cache_list::CacheConfList;
 pub use calls::{Answer, Call, MathOp};
 pub use conf::CacheConf;
 pub use desk::{Desk, DeskFault, make_ask};
 pub use entries::Entry;
+pub use list_area::ListArea;
 pub use list_cache::ListCache;
 pub use list_desk::ListDesk;

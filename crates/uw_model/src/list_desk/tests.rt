@@ -1,10 +1,11 @@
-// Asks of a desk of two caches, each with the answer that it must have.
+// Asks of a desk of two caches and two areas, each with the answer that it must have.
 ghost use Rattle.std.specs.Prelude.{◌≡◌, length, IfOk};
 ghost use Rattle.std.specs.List.{AllByRecursion};
+ghost use Rattle.uw_model.specs.AreaOps.{IsAreaSize};
 ghost use Rattle.uw_model.specs.Entries.{IsCacheConf};
 
 use super::*;
-use crate::{Ask, AskAnswer, CacheConf, make_ask};
+use crate::{Ask, AskAnswer, CacheConf, Width, make_ask};
 use std::test::Fail;
 use uw_base::Bytes;
 use uw_outside::Immortal;
@@ -60,6 +61,16 @@ fn two_confs(alloc: Global) -> Result<CacheConfList, Memory>
     Ok(confs)
 }
 
+fn two_sizes(alloc: Global) -> Result<NumberList, Memory>
+    ensures each { IfOk result (λ sizes. AllByRecursion IsAreaSize sizes) }
+    ensures two { IfOk result (λ sizes. length sizes ≡ 2) }
+{
+    let mut sizes = NumberList::new(alloc);
+    sizes.push(1)?;
+    sizes.push(2)?;
+    Ok(sizes)
+}
+
 fn call_of(alloc: Global, what: What) -> Result<Call, Memory> {
     let key = Bytes::from_slice(alloc, b"k")?;
     Ok(match what {
@@ -85,21 +96,50 @@ fn text(answer: &Answer) -> &[u8] {
 
 #[test]
 fn each_cache_of_a_desk_answers_for_itself(rt: HostRuntime) -> Result<(), Fail> {
-    let mut desk = ListDesk::new(rt.alloc(), &two_confs(rt.alloc())?)?;
+    let sizes = NumberList::new(rt.alloc());
+    let mut desk = ListDesk::new(rt.alloc(), &two_confs(rt.alloc())?, &sizes)?;
     for (number, (cache, what, want)) in ROWS.iter().enumerate() {
         assert!(rt; *cache < 2);
         let ask = Ask::Cache {
             cache: *cache,
             call: call_of(rt.alloc(), *what)?,
         };
-        let AskAnswer::Cache(answer) = make_ask(
-            rt.alloc(),
-            &mut desk,
-            10,
-            &ask,
-            &mut Immortal::new(),
-        )?;
-        assert_eq!(rt; text(&answer), *want, "row {number}");
+        match make_ask(rt.alloc(), &mut desk, 10, &ask, &mut Immortal::new())? {
+            AskAnswer::Cache(answer) => assert_eq!(rt; text(&answer), *want, "row {number}"),
+            _ => panic!(rt; "row {number}"),
+        }
+    }
+    Ok(())
+}
+
+/// The number of an area, what is added to its first byte, and the sum that is wanted.
+const SUMS: &[(u32, u64, u64)] = &[
+    (1, 5, 5),
+    (0, 1, 1),
+    (1, 250, 255),
+    (0, 2, 3),
+    (1, 1, 0),
+    (0, 0, 3),
+];
+
+#[test]
+fn each_area_of_a_desk_answers_for_itself(rt: HostRuntime) -> Result<(), Fail> {
+    let confs = CacheConfList::new(rt.alloc());
+    let mut desk = ListDesk::new(rt.alloc(), &confs, &two_sizes(rt.alloc())?)?;
+    for (number, (area, by, want)) in SUMS.iter().enumerate() {
+        assert!(rt; *area < 2);
+        let op = AreaOp::IncNum {
+            at: 0,
+            width: Width::W8,
+            by: *by,
+        };
+        let ask = Ask::Area { area: *area, op };
+        match make_ask(rt.alloc(), &mut desk, 10, &ask, &mut Immortal::new())? {
+            AskAnswer::Area(AreaAnswer::Number(sum)) => {
+                assert_eq!(rt; sum, *want, "row {number}")
+            }
+            _ => panic!(rt; "row {number}"),
+        }
     }
     Ok(())
 }

@@ -1,0 +1,19 @@
+-- What the area of the number answered, or that nothing was done.
+use Rattle.std.proofs.Common.{length, arith, ap}
+use Rattle.uw_model.specs.Lists.{Lists}
+use Rattle.uw_model.proofs.CachesLemmas.{operation_answered, operation_not_made}
+use Rattle.uw_model.proofs.list_desk.ListDeskDesk.area.Goals as goal
+use Rattle.uw_model.proofs.list_desk.ListDeskDesk.area.Goals.{in-Ok, in-Err}
+
+pub returns-clause-asked : goal.returns-clause-asked
+returns-clause-asked g c moment =
+    let caches = c.self.inside.caches.items in
+    let areas = c.self.inside.areas.items in
+    let told = g.L.Life.allowances c.args.life.now in
+    let here = c.index_mut.ensures.value in
+    elim c.match-call.branch [
+      | in-Ok w ↦ let e = w.in-Ok.ensures in
+          rw (w.result-is, ← c.self.view_is) (operation_answered caches areas c.args.area moment c.args.op.now told c.index_mut.result.now c.call.new.self w.in-Ok.answer (omega (arith, ap (λ (lists : Lists). length lists.areas) c.self.view_is)) here e.answer e.next)
+      | in-Err w ↦ let e = w.in-Err.ensures in
+          rw (w.result-is, ← c.self.view_is) (operation_not_made caches areas c.args.area moment c.args.op.now told c.index_mut.result.now c.call.new.self here e.err)
+    ]
