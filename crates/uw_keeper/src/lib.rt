@@ -1,0 +1,13 @@
+//! Where tasks are kept: rows of bytes under rising numbers.
+#![tactic(auto)]
+
+pub mod folder;
+pub mod keeper;
+pub mod laws;
+pub mod mem;
+#[cfg(test)]
+mod tests;
+
+pub use folder::FolderKeeper;
+pub use keeper::{KeepFault, Keeper, Row};
+pub use mem::MemKeeper;
