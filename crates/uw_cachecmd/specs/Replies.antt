@@ -1,9 +1,11 @@
 -- The reply texts (own rule).
-use Rattle.std.specs.Prelude.{ℕ, ◌==◌, true, false, if◌then◌else◌, List, [], ◌++◌, codes}
-use Rattle.std.specs.Fmt.{signed_decimal}
+use Rattle.std.specs.Prelude.{ℕ, ◌==◌, ◌-◌, true, false, if◌then◌else◌, List, [], ◌++◌, codes, length, replicate}
+use Rattle.std.specs.Fmt.{decimal, signed_decimal}
 use Rattle.uw_packet.specs.Blocks.{array_of}
 use Rattle.uw_model.specs.declared.calls.Answer.{Answer}
 use Rattle.uw_model.specs.declared.calls.Answer.TheVariants as answers
+use Rattle.uw_model.specs.declared.asks.SpoolAnswer.{SpoolAnswer}
+use Rattle.uw_model.specs.declared.asks.SpoolAnswer.TheVariants as spools
 use Rattle.uw_cachecmd.specs.declared.commands.CmdFault.{CmdFault}
 use Rattle.uw_cachecmd.specs.declared.commands.CmdFault.TheVariants as faults
 
@@ -52,3 +54,13 @@ HasReply faults.UnknownCommand = Unit {0}
 HasReply faults.UnknownCache = Unit {0}
 HasReply faults.BadNumber = Unit {0}
 HasReply faults.Memory = ⊥
+
+-- a number in 20 digits
+unfoldable pub in_twenty_digits : ℕ → List ℕ
+in_twenty_digits number = replicate (20 - length (decimal number)) 48 ++ decimal number
+
+-- the reply to a task that was to be put aside ("Spooler")
+abbrev pub spool_text : SpoolAnswer → List ℕ
+spool_text (spools.Put number) = codes "ok " ++ in_twenty_digits number
+spool_text spools.NoNumber = codes "no number"
+spool_text spools.Failed = codes "failed"

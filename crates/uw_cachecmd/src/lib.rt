@@ -7,4 +7,4 @@ pub mod reply;
 mod tests;
 
 pub use commands::{CmdFault, command};
-pub use reply::{cache_reply, fault_reply};
+pub use reply::{cache_reply, fault_reply, put_in_twenty_digits, spool_reply};

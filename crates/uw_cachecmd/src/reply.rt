@@ -1,14 +1,18 @@
 // The replies to commands.
-ghost use Rattle.std.specs.Prelude.{◌≡◌, ◌++◌, ◌∷◌, List, ℕ, codes, IfOk};
+ghost use Rattle.std.specs.Prelude.{◌≡◌, ◌++◌, ◌∷◌, List, ℕ, codes, IfOk, OnOk};
 ghost use Rattle.std.specs.Fmt.{signed_decimal};
 ghost use Rattle.uw_packet.specs.Blocks.{array_of};
-ghost use Rattle.uw_cachecmd.specs.Replies.{reply_text, answer_text, value_text, refusal_reply, HasReply};
+ghost use Rattle.uw_cachecmd.specs.Replies.{reply_text, answer_text, value_text, refusal_reply, HasReply, in_twenty_digits, spool_text};
 
 use crate::CmdFault;
 use byteorder::{ByteOrder, LittleEndian};
+use itoa::Buffer;
 use std::alloc::Global;
 use uw_base::{Bytes, Memory, put_signed};
-use uw_model::Answer;
+use uw_model::{Answer, SpoolAnswer};
+
+// The zeros in front of a number in 20 digits, which is the most that a number below 2^64 has.
+const ZEROS: [u8; 20] = [b'0'; 20];
 
 /// The bytes that answer a command: for modifier2 0 the value alone, else the answer's text.
 pub fn cache_reply(alloc: Global, m2: u8, answer: &Answer) -> Result<Bytes, Memory>
@@ -87,4 +91,29 @@ fn keys_text(alloc: Global, keys: &[Bytes]) -> Result<Bytes, Memory>
         reply.append(key.as_slice())?;
     }
     Ok(reply)
+}
+
+/// The bytes that answer a task that was to be put aside.
+pub fn spool_reply(alloc: Global, answer: SpoolAnswer) -> Result<Bytes, Memory>
+    ensures { IfOk result (λ reply. reply ≡ spool_text answer) }
+{
+    match answer {
+        SpoolAnswer::Put { number } => {
+            let mut reply = Bytes::from_slice(alloc, b"ok ")?;
+            put_in_twenty_digits(&mut reply, number)?;
+            Ok(reply)
+        }
+        SpoolAnswer::NoNumber => Bytes::from_slice(alloc, b"no number"),
+        SpoolAnswer::Failed => Bytes::from_slice(alloc, b"failed"),
+    }
+}
+
+/// Puts a number at the end in 20 digits, those in front zeros.
+pub fn put_in_twenty_digits(out: &mut Bytes, number: u64) -> Result<(), Memory>
+    ensures { OnOk result (out.new ≡ out.old ++ in_twenty_digits number) }
+{
+    let mut buffer = Buffer::new();
+    let digits = buffer.format(number).as_bytes();
+    out.append(&ZEROS[digits.len()..])?;
+    out.append(digits)
 }

@@ -1,10 +1,10 @@
 // Commands and replies by worked examples.
-use crate::{CmdFault, cache_reply, command, fault_reply};
+use crate::{CmdFault, cache_reply, command, fault_reply, spool_reply};
 use std::alloc::{AllocError, Global};
 use std::process::Abort;
 use std::test::Fail;
 use uw_base::{Bytes, BytesList, Memory};
-use uw_model::{Answer, Ask, Call, MathOp};
+use uw_model::{Answer, Ask, Call, MathOp, SpoolAnswer};
 
 // The names of the caches, in most rows.
 const NAMES: &[&str] = &["c", "d"];
@@ -100,6 +100,7 @@ fn each_word_commands_its_call(rt: HostRuntime) -> Result<(), Fail> {
                 assert_eq!(rt; found.2, value.as_bytes(), "{word}");
                 assert_eq!(rt; (found.3, found.4), (ttl, by), "{word}");
             }
+            Ok(_) => panic!(rt; "no call at {word}"),
             Err(fault) => panic!(rt; "{fault:?} at {word}"),
         }
     }
@@ -146,6 +147,7 @@ fn blocks_ask_a_cache(rt: HostRuntime) -> Result<(), Fail> {
                 assert_eq!(rt; (cache, found.0, found.3, found.4), want, "{block:?}");
                 assert_eq!(rt; found.1, b"k".as_slice(), "{block:?}");
             }
+            Ok(_) => panic!(rt; "no call at {block:?}"),
             Err(fault) => panic!(rt; "{fault:?} at {block:?}"),
         }
     }
@@ -303,6 +305,22 @@ fn refusals_have_their_texts(rt: HostRuntime) -> Result<(), Fail> {
     for (m2, fault, text) in rows {
         assert!(rt; !matches!(fault, CmdFault::BadBlock { .. } | CmdFault::Memory));
         assert_eq!(rt; fault_reply(rt.alloc(), m2, &fault)?.as_slice(), text);
+    }
+    Ok(())
+}
+
+#[test]
+fn tasks_have_their_replies(rt: HostRuntime) -> Result<(), Fail> {
+    let least = SpoolAnswer::Put { number: 7 };
+    let most = SpoolAnswer::Put { number: u64::MAX };
+    let rows: [(SpoolAnswer, &[u8]); 4] = [
+        (least, b"ok 00000000000000000007"),
+        (most, b"ok 18446744073709551615"),
+        (SpoolAnswer::NoNumber, b"no number"),
+        (SpoolAnswer::Failed, b"failed"),
+    ];
+    for (answer, text) in rows {
+        assert_eq!(rt; spool_reply(rt.alloc(), answer)?.as_slice(), text);
     }
     Ok(())
 }

@@ -1,12 +1,15 @@
--- The least refused line, behind a walk over the lines and a reading of their rules.
+-- The least refused line, behind a walk over the lines and the readings of their two tables of rules.
 use Rattle.std.proofs.Common.{◌≡◌, ℕ, zero, suc, ◌+◌, ◌<◌, ◌≤◌, Bool, true, false, cond, nat_lt, List, [], ◌∷◌, length, Option, Some, None, Result, Ok, Err, IfSome, refl, sym, ap, subst, ◌∙◌, arith, ◌⊎◌, inl, inr, ⊎_elim}
 use Rattle.std.specs.Prelude.{IfErr, IsSomeAnd, map, slice_get}
 use Rattle.std.specs.Option.{option_map, option_or}
 use Rattle.std.proofs.lemmas.Bool.Decides.{nat_tests}
+use Rattle.uw_base.specs.declared.bytes.Memory.{Memory}
 use Rattle.uw_outside.specs.Faults.{Rose}
+use Rattle.uw_rules.specs.declared.grammar.Table.{Table}
+use Rattle.uw_rules.specs.declared.grammar.Table.TheVariants as tables
 use Rattle.uw_rules.specs.declared.lines.RuleLine.{RuleLine}
 use Rattle.uw_rules.specs.declared.kinds.RuleKind.{RuleKind}
-use Rattle.uw_rules.specs.declared.kinds.RulesError.{RulesError}
+use Rattle.uw_rules.specs.declared.kinds.RuleKind.TheVariants as refusals
 use Rattle.uw_rules.specs.declared.compiled.RuleTable.{RuleTable}
 use Rattle.uw_model.specs.declared.conf.CacheConf.{CacheConf}
 use Rattle.uw_conf.specs.declared.conf.Conf.{Conf}
@@ -14,23 +17,24 @@ use Rattle.uw_conf.specs.declared.conf.ConfError.{ConfError}
 use Rattle.uw_conf.specs.declared.conf.ConfError.TheVariants as conf_errors
 use Rattle.std.specs.Str.Lines.{lines}
 use Rattle.std.proofs.lemmas.Bool.{cond-false}
+use Rattle.uw_rules.specs.Arguments.{SiteNames}
 use Rattle.uw_rules.specs.Rules.{rule_refusal_at}
-use Rattle.uw_rules.specs.Tables.{IsFirstRefused, NoneRefusedBefore, ReadsRules}
+use Rattle.uw_rules.specs.Tables.{IsFirstRefused, NoneRefusedBefore}
 use Rattle.uw_conf.specs.declared.conf.ConfFault.{ConfFault}
 use Rattle.uw_conf.specs.declared.conf.ConfKind.TheVariants as kinds
 use Rattle.uw_conf.specs.declared.conf.Options.{Options}
 use Rattle.uw_conf.specs.declared.reading.Walk.{Walk}
-use Rattle.uw_conf.specs.Configuration.{configuration_of, lesser_fault, most_text_bytes, said_by, unless_fault}
-use Rattle.uw_conf.specs.Given.{IsPatternRefused, ReadsConf}
-use Rattle.uw_conf.specs.DecidingSteps.{ReadsLines}
+use Rattle.uw_conf.specs.Configuration.{configuration_of, first_refused_option, least_refused, lesser_fault, most_text_bytes, said_by, unless_fault}
+use Rattle.uw_conf.specs.Given.{HasTableOf, IsPatternRefused, ReadsConf}
+use Rattle.uw_conf.specs.DecidingSteps.{Decides, ReadsLines, ReadsTable, fault_in, least_found, of_fault}
 use Rattle.uw_conf.specs.Reading.{ReadSoFar, blank_reading, reading_after}
 use Rattle.uw_conf.specs.ReadingSteps.{WalksOver}
-use Rattle.uw_conf.specs.Routes.{cache_names_of, first_refused_rule, rule_lines_of, rule_refused_at}
+use Rattle.uw_conf.specs.Routes.{first_refused_in, first_refused_rule, rule_lines_of, rule_refused_at, site_names_of}
 use Rattle.uw_conf.proofs.RouteLemmas.{RisesFrom, rules_rise, rules_tell}
 
 -- ---- the first refused rule
 
-module _ (names : List (List ℕ)) (all : List RuleLine) where
+module _ (names : SiteNames) (all : List RuleLine) where
   -- no rule from a place on is refused, so many
   abbrev NoneFrom : ℕ → ℕ → Type 0
   NoneFrom here count = (k : ℕ) → k < count → rule_refusal_at names all (here + k) false ≡ None
@@ -75,106 +79,255 @@ module _ (names : List (List ℕ)) (all : List RuleLine) where
       subst (λ (x : Option ConfFault). IfSome x (λ (fault : ConfFault). line ≤ fault.line)) (sym (passed here rule rest (at_first here None (none 0 (omega arith)))))
       (refused_from (here + 1) (rule.line + 1) k line rest h.1 at (λ j below. behind here j None (none (suc j) (omega arith))))
 
--- ---- what the lines say
+-- ---- the first refused rule of a table
 
--- the first refused rule of lines
-abbrev first_rule : List (List ℕ) → Option ConfFault
-first_rule lines = first_refused_rule (cache_names_of lines) (rule_lines_of lines) 0 (rule_lines_of lines)
-
-from_start : (names : List (List ℕ)) (all : List RuleLine) (count : ℕ) → NoneRefusedBefore names all count → (k : ℕ) → k < count → rule_refusal_at names all (0 + k) false ≡ None
+from_start : (names : SiteNames) (all : List RuleLine) (count : ℕ) → NoneRefusedBefore names all count → (k : ℕ) → k < count → rule_refusal_at names all (0 + k) false ≡ None
 from_start names all count none k below = let same : k ≡ 0 + k = omega arith in subst (λ (n : ℕ). rule_refusal_at names all n false ≡ None) same (none k below)
 
-said_walk : (lines : List (List ℕ)) (walk : Walk) → WalksOver lines walk → said_by lines ≡ unless_fault (lesser_fault walk.fault (first_rule lines)) walk.progress.options
-said_walk lines walk over =
-    sym (ap (λ (own : Option ConfFault). unless_fault (lesser_fault own (first_rule lines)) (reading_after blank_reading lines).conf) over.fault)
-    ∙ sym (ap (λ (r : ReadSoFar). unless_fault (lesser_fault walk.fault (first_rule lines)) r.conf) over.reading)
+-- no line of the fault or before it is refused
+abbrev pub Below : ℕ → Option ConfFault → Type 0
+Below line found = IfSome found (λ (fault : ConfFault). line ≤ fault.line)
 
--- no rule is refused
-pub said_with_routes : (lines : List (List ℕ)) (walk : Walk) → WalksOver lines walk → NoneRefusedBefore (cache_names_of lines) (rule_lines_of lines) (length (rule_lines_of lines))
-    → said_by lines ≡ unless_fault (lesser_fault walk.fault None) walk.progress.options
-said_with_routes lines walk over none =
-    said_walk lines walk over
-    ∙ ap (λ (x : Option ConfFault). unless_fault (lesser_fault walk.fault x) walk.progress.options)
-    (none_refused (cache_names_of lines) (rule_lines_of lines) 0 (rule_lines_of lines) (from_start (cache_names_of lines) (rule_lines_of lines) (length (rule_lines_of lines)) none))
+-- a found fault is the least one; or it is one of the kind, before which there is none; or none was found, and there is none
+abbrev pub Stands : (ConfFault → Type 0) → Option ConfFault → Option ConfFault → Type 0
+Stands Other None least = least ≡ None
+Stands Other (Some fault) least = (least ≡ Some fault) ⊎ (Other fault × Below fault.line least)
+
+-- the line of the fault is that of a rule of a table, which is refused where its pattern is
+pub record IsPatternAt (table : Table) (lines : List (List ℕ)) (fault : ConfFault) : Type 0 where
+  pub here : ℕ
+  pub line : IsSomeAnd (slice_get (rule_lines_of table lines) here) (λ (rule : RuleLine). rule.line ≡ fault.line)
+  pub refused : rule_refusal_at (site_names_of lines) (rule_lines_of table lines) here true ≡ Some refusals.PatternRefused
+  pub kind : fault.kind ≡ kinds.Rule refusals.PatternRefused
+
+-- the line of the fault is that of a rule whose pattern was refused and counted
+pub record IsCounted (lines : List (List ℕ)) (before after : ℕ) (fault : ConfFault) : Type 0 where
+  pub table : Table
+  pub at : IsPatternAt table lines fault
+  pub rose : Rose before after
+
+same_fault : (line : ℕ) (fault : ConfFault) (kind : RuleKind) → fault.kind ≡ kinds.Rule kind → rule_refused_at fault.line kind ≡ fault
+same_fault line fault kind h = ap (λ k. record { line = fault.line; kind = k }) (sym h)
+
+module _ (lines : List (List ℕ)) (before after first last : ℕ) (early : before ≤ first) (late : last ≤ after) (table : Table) where
+  abbrev rules : List RuleLine
+  rules = rule_lines_of table lines
+
+  abbrev site : SiteNames
+  site = site_names_of lines
+
+  at_here : (here : ℕ) (found : Option RuleKind) → rule_refusal_at site rules here false ≡ found → rule_refusal_at site rules (0 + here) false ≡ found
+  at_here here found e = let same : here ≡ 0 + here = omega arith in subst (λ (n : ℕ). rule_refusal_at site rules n false ≡ found) same e
+
+  rose_between : Rose first last → Rose before after
+  rose_between rose = omega arith
+
+  table_fault : (fault : ConfFault) (kind : RuleKind) → fault.kind ≡ kinds.Rule kind → IsFirstRefused site rules first last fault.line kind
+      → Stands (IsCounted lines before after) (Some fault) (first_refused_in table lines)
+  table_fault fault kind same found =
+      ⊎_elim
+      (λ text. inl (
+      refused_there site rules 0 found.here fault.line kind rules found.number (from_start site rules found.here found.earlier) (at_here found.here (Some kind) text)
+      ∙ ap (λ (f : ConfFault). Some f) (same_fault fault.line fault kind same)))
+      (λ pattern. inr (
+        record {
+          table = table;
+          at = record {
+            here = found.here;
+            line = found.number;
+            refused = pattern.0 ∙ ap (λ (k : RuleKind). Some k) pattern.1;
+            kind = same ∙ ap (λ (k : RuleKind). kinds.Rule k) pattern.1;
+          };
+          rose = rose_between pattern.2;
+        },
+        refused_from site rules 0 1 found.here fault.line rules (rules_rise table blank_reading 1 lines) found.number (from_start site rules found.here found.earlier),
+      ))
+      found.cause
+
+  -- what the reading of a table found
+  pub table_stands : (result : Result RuleTable ConfFault) → ReadsTable site rules first last (Ok result)
+      → Stands (IsCounted lines before after) (fault_in result) (first_refused_in table lines)
+  table_stands (Ok read) h = none_refused site rules 0 rules (from_start site rules (length rules) h.0)
+  table_stands (Err fault) h = table_fault fault h.0 h.1 h.2
+
+-- ---- the least of two faults
 
 pub lesser_none : (own : Option ConfFault) → lesser_fault own None ≡ own
 lesser_none None = refl
 lesser_none (Some fault) = refl
 
-not_below : (r f g : ℕ) → nat_lt r f ≡ false → r ≤ g → nat_lt g f ≡ false
-not_below r f g t bound = grind (arith, nat_tests)
+module _ (Other : ConfFault → Type 0) where
+  below_if : (line : ℕ) (test : Bool) (one other : ConfFault) → line ≤ one.line → line ≤ other.line → Below line (cond test (Some other) (Some one))
+  below_if line true one other h k = k
+  below_if line false one other h k = h
 
--- no line before that of a fault is refused
-abbrev Bounded : ConfFault → Result Options ConfFault → Type 0
-Bounded refused said = IfErr said (λ (other : ConfFault). refused.line ≤ other.line)
+  both_below : (line : ℕ) (one other : Option ConfFault) → Below line one → Below line other → Below line (lesser_fault one other)
+  both_below line None other h k = k
+  both_below line (Some one) None h k = h
+  both_below line (Some one) (Some other) h k = below_if line (nat_lt other.line one.line) one other h k
 
-lesser_bound : (refused : ConfFault) (test : Bool) (g f : ConfFault) (options : Options) → refused.line ≤ g.line → refused.line ≤ f.line
-    → Bounded refused (unless_fault (cond test (Some g) (Some f)) options)
-lesser_bound refused true g f options low high = low
-lesser_bound refused false g f options low high = high
+  weaker : (low high : ℕ) (found : Option ConfFault) → low ≤ high → Below high found → Below low found
+  weaker low high None le h = tt
+  weaker low high (Some fault) le h = omega arith
 
--- a rule's pattern is refused: an option's line before it is the least refused one, or no line before it is refused
-pattern_case : (said : Result Options ConfFault) (own first : Option ConfFault) (options : Options) (refused result : ConfFault)
-    → said ≡ unless_fault (lesser_fault own first) options → IfSome first (λ (fault : ConfFault). refused.line ≤ fault.line) → lesser_fault own (Some refused) ≡ Some result
-    → (said ≡ Err result) ⊎ ((result ≡ refused) × IfErr said (λ (other : ConfFault). refused.line ≤ other.line))
-pattern_case said None None options refused result e bound least =
-    inr (sym (cc), subst (λ (x : Result Options ConfFault). IfErr x (λ (other : ConfFault). refused.line ≤ other.line)) (sym e) tt)
-pattern_case said None (Some g) options refused result e bound least =
-    inr (sym (cc), subst (λ (x : Result Options ConfFault). IfErr x (λ (other : ConfFault). refused.line ≤ other.line)) (sym e) bound)
-pattern_case said (Some f) first options refused result e bound least = by_test (nat_lt refused.line f.line) refl first e bound least
-  where
-    by_test : (test : Bool) → nat_lt refused.line f.line ≡ test → (first : Option ConfFault) → said ≡ unless_fault (lesser_fault (Some f) first) options
-        → IfSome first (λ (fault : ConfFault). refused.line ≤ fault.line) → cond test (Some refused) (Some f) ≡ Some result
-        → (said ≡ Err result) ⊎ ((result ≡ refused) × Bounded refused said)
-    by_test true t None e bound least =
-        let below : refused.line ≤ f.line = grind (arith, nat_tests) in inr (sym (cc), subst (Bounded refused) (sym e) below)
-    by_test true t (Some g) e bound least =
-        let below : refused.line ≤ f.line = grind (arith, nat_tests) in inr (sym (cc), subst (Bounded refused) (sym e) (lesser_bound refused (nat_lt g.line f.line) g f options bound below))
-    by_test false t None e bound least = let same : f ≡ result = cc in inl (e ∙ ap (λ (x : ConfFault). Err x) same)
-    by_test false t (Some g) e bound least =
-        let same : f ≡ result = cc in
-        let above : nat_lt g.line f.line ≡ false = not_below refused.line f.line g.line t bound in
-        inl (e ∙ ap (λ (test : Bool). unless_fault (cond test (Some g) (Some f)) options) above ∙ ap (λ (x : ConfFault). Err x) same)
+  stands_below : (fault : ConfFault) (least : Option ConfFault) → Stands Other (Some fault) least → Below fault.line least
+  stands_below fault least (inl same) =
+      let low : fault.line ≤ fault.line = omega arith in
+      subst (Below fault.line) (sym same) low
+  stands_below fault least (inr other) = other.1
 
--- the least of what the options and the first refused rule are refused for
-pub said_refused : (lines : List (List ℕ)) (walk : Walk) (before after line : ℕ) (kind : RuleKind) (result : ConfFault) → WalksOver lines walk
-    → IsFirstRefused (cache_names_of lines) (rule_lines_of lines) before after line kind → lesser_fault walk.fault (Some (rule_refused_at line kind)) ≡ Some result
-    → (said_by lines ≡ Err result) ⊎ (IsPatternRefused lines result × Rose before after)
-said_refused lines walk before after line kind result over first least =
-    ⊎_elim
-    (λ text. inl (said_walk lines walk over
-    ∙ ap (λ (x : Option ConfFault). unless_fault (lesser_fault walk.fault x) walk.progress.options)
-    (refused_there (cache_names_of lines) (rule_lines_of lines) 0 first.here line kind (rule_lines_of lines) first.number (from_start (cache_names_of lines) (rule_lines_of lines) first.here first.earlier) (at_here (Some kind) text))
-    ∙ ap (λ (x : Option ConfFault). unless_fault x walk.progress.options) least))
-    (λ pattern. ⊎_elim
-    inl
-    (λ own. inr (
-      record {
-        here = first.here;
-        line = subst (λ (n : ℕ). IsSomeAnd (slice_get (rule_lines_of lines) first.here) (λ (rule : RuleLine). rule.line ≡ n)) (sym (ap (λ (x : ConfFault). x.line) own.0)) first.number;
-        refused = pattern.0 ∙ ap (λ (k : RuleKind). Some k) pattern.1;
-        kind = ap (λ (x : ConfFault). x.kind) own.0 ∙ ap (λ (k : RuleKind). kinds.Rule k) pattern.1;
-        least = subst (λ (n : ℕ). IfErr (said_by lines) (λ (other : ConfFault). n ≤ other.line)) (sym (ap (λ (x : ConfFault). x.line) own.0)) own.1;
-      },
-      pattern.2,
-    ))
-    (pattern_case (said_by lines) walk.fault (first_rule lines) walk.progress.options (rule_refused_at line kind) result (said_walk lines walk over)
-    (refused_from (cache_names_of lines) (rule_lines_of lines) 0 1 first.here line (rule_lines_of lines) (rules_rise blank_reading 1 lines) first.number (from_start (cache_names_of lines) (rule_lines_of lines) first.here first.earlier)) least))
-    first.cause
-  where
-    at_here : (found : Option RuleKind) → rule_refusal_at (cache_names_of lines) (rule_lines_of lines) first.here false ≡ found → rule_refusal_at (cache_names_of lines) (rule_lines_of lines) (0 + first.here) false ≡ found
-    at_here found e = let same : first.here ≡ 0 + first.here = omega arith in subst (λ (n : ℕ). rule_refusal_at (cache_names_of lines) (rule_lines_of lines) n false ≡ found) same e
+  lt_test : (a b : ℕ) → a < b → nat_lt a b ≡ true
+  lt_test a b h = grind (arith, nat_tests)
+
+  le_test : (a b : ℕ) → b ≤ a → nat_lt a b ≡ false
+  le_test a b h = grind (arith, nat_tests)
+
+  -- the other fault is the least, where the first one is behind it
+  later_first : (one : Option ConfFault) (other : ConfFault) (line : ℕ) → other.line < line → Below line one → lesser_fault one (Some other) ≡ Some other
+  later_first None other line less h = refl
+  later_first (Some one) other line less h =
+      let before : other.line < one.line = omega arith in
+      ap (λ (test : Bool). cond test (Some other) (Some one)) (lt_test other.line one.line before)
+
+  -- the first one is the least, where the other is not before it
+  early_first : (one : ConfFault) (other : Option ConfFault) → Below one.line other → lesser_fault (Some one) other ≡ Some one
+  early_first one None h = refl
+  early_first one (Some other) h = ap (λ (test : Bool). cond test (Some other) (Some one)) (le_test other.line one.line h)
+
+  other_stands : (one other : ConfFault) (first second : Option ConfFault) → other.line < one.line → Below one.line first → Stands Other (Some other) second
+      → Stands Other (Some other) (lesser_fault first second)
+  other_stands one other first second less low (inl same) = inl (ap (lesser_fault first) same ∙ later_first first other one.line less low)
+  other_stands one other first second less low (inr counted) =
+      let before : other.line ≤ one.line = omega arith in
+      inr (counted.0, both_below other.line first second (weaker other.line one.line first before low) counted.1)
+
+  first_stands : (one other : ConfFault) (first second : Option ConfFault) → one.line ≤ other.line → Stands Other (Some one) first → Below other.line second
+      → Stands Other (Some one) (lesser_fault first second)
+  first_stands one other first second le (inl same) high =
+      inl (ap (λ (f : Option ConfFault). lesser_fault f second) same ∙ early_first one second (weaker one.line other.line second le high))
+  first_stands one other first second le (inr counted) high =
+      inr (counted.0, both_below one.line first second counted.1 (weaker one.line other.line second le high))
+
+  chosen : (test : Bool) (one other : ConfFault) (first second : Option ConfFault) → nat_lt other.line one.line ≡ test → Stands Other (Some one) first
+      → Stands Other (Some other) second → Stands Other (cond test (Some other) (Some one)) (lesser_fault first second)
+  chosen true one other first second e h k =
+      let less : other.line < one.line = grind (arith, nat_tests) in
+      other_stands one other first second less (stands_below one first h) k
+  chosen false one other first second e h k =
+      let le : one.line ≤ other.line = grind (arith, nat_tests) in
+      first_stands one other first second le h (stands_below other second k)
+
+  -- the least of two found faults is the least, or counted
+  pub both_stand : (one other first second : Option ConfFault) → Stands Other one first → Stands Other other second
+      → Stands Other (lesser_fault one other) (lesser_fault first second)
+  both_stand None other first second h k = subst (λ (f : Option ConfFault). Stands Other other (lesser_fault f second)) (sym h) k
+  both_stand (Some one) None first second h k =
+      subst (λ (f : Option ConfFault). Stands Other (Some one) (lesser_fault first f)) (sym k)
+      (subst (Stands Other (Some one)) (sym (lesser_none first)) h)
+  both_stand (Some one) (Some other) first second h k = chosen (nat_lt other.line one.line) one other first second refl h k
+
+  -- what was found for itself
+  pub own_stands : (own : Option ConfFault) → Stands Other own own
+  own_stands None = refl
+  own_stands (Some fault) = inl refl
+
+-- ---- what the lines say
+
+module _ (lines : List (List ℕ)) (before after : ℕ) where
+  -- no line before that of a fault is refused
+  below_said : (line : ℕ) (least : Option ConfFault) (options : Options) → Below line least → IfErr (unless_fault least options) (λ (other : ConfFault). line ≤ other.line)
+  below_said line None options h = tt
+  below_said line (Some fault) options h = h
+
+  -- the found fault is that of the lines
+  refused_lines : (fault : ConfFault) → Stands (IsCounted lines before after) (Some fault) (least_refused lines)
+      → (said_by lines ≡ Err fault) ⊎ (IsPatternRefused lines fault × Rose before after)
+  refused_lines fault (inl same) = inl (ap (λ (f : Option ConfFault). unless_fault f (reading_after blank_reading lines).conf) same)
+  refused_lines fault (inr counted) =
+      inr (
+        record {
+          table = counted.0.table;
+          here = counted.0.at.here;
+          line = counted.0.at.line;
+          refused = counted.0.at.refused;
+          kind = counted.0.at.kind;
+          least = below_said fault.line (least_refused lines) (reading_after blank_reading lines).conf counted.1;
+        },
+        counted.0.rose,
+      )
+
+  -- what a walk and both tables found stands
+  found_stands : (walk : Walk) (routes tasks : Result RuleTable ConfFault) (middle : ℕ) → before ≤ middle → middle ≤ after → WalksOver lines walk
+      → ReadsTable (site_names_of lines) (rule_lines_of tables.Requests lines) before middle (Ok routes)
+      → ReadsTable (site_names_of lines) (rule_lines_of tables.Tasks lines) middle after (Ok tasks)
+      → Stands (IsCounted lines before after) (least_found walk routes tasks) (least_refused lines)
+  found_stands walk routes tasks middle early late over h k =
+      let first : before ≤ before = omega arith in
+      let last : after ≤ after = omega arith in
+      subst (λ (own : Option ConfFault). Stands (IsCounted lines before after) (lesser_fault own (lesser_fault (fault_in routes) (fault_in tasks))) (least_refused lines)) (sym over.fault)
+      (both_stand (IsCounted lines before after) (first_refused_option lines) (lesser_fault (fault_in routes) (fault_in tasks)) (first_refused_option lines) _
+      (own_stands (IsCounted lines before after) (first_refused_option lines))
+      (both_stand (IsCounted lines before after) (fault_in routes) (fault_in tasks) (first_refused_in tables.Requests lines) (first_refused_in tables.Tasks lines)
+      (table_stands lines before after before middle first late tables.Requests routes h)
+      (table_stands lines before after middle after early last tables.Tasks tasks k)))
+
+  -- the table that was read is that of the lines
+  has_table : (table : Table) (first last : ℕ) (rules : RuleTable) (result : Result RuleTable ConfFault) → result ≡ Ok rules
+      → ReadsTable (site_names_of lines) (rule_lines_of table lines) first last (Ok result) → HasTableOf table lines rules
+  has_table table first last rules (Ok read) same h = let is : read ≡ rules = cc in subst (HasTableOf table lines) is h.1
+  has_table table first last rules (Err fault) same h = absurd (cc)
+
+  -- lines are read, behind a walk and the readings of both tables
+  reads_lines : (walk : Walk) (routes tasks : Result RuleTable ConfFault) (middle : ℕ) (result : Result Conf ConfFault) → before ≤ middle → middle ≤ after
+      → WalksOver lines walk
+      → ReadsTable (site_names_of lines) (rule_lines_of tables.Requests lines) before middle (Ok routes)
+      → ReadsTable (site_names_of lines) (rule_lines_of tables.Tasks lines) middle after (Ok tasks)
+      → Decides walk routes tasks result → ReadsLines lines before after (of_fault result)
+  reads_lines walk routes tasks middle (Ok conf) early late over h k says =
+      let none : least_refused lines ≡ None =
+      subst (λ (found : Option ConfFault). Stands (IsCounted lines before after) found (least_refused lines)) says.0
+      (found_stands walk routes tasks middle early late over h k) in (
+        ap (λ (f : Option ConfFault). unless_fault f (reading_after blank_reading lines).conf) none
+            ∙ ap (λ (r : ReadSoFar). Ok r.conf) (sym over.reading) ∙ ap (λ (o : Options). Ok o) (sym says.1),
+        (has_table tables.Requests before middle conf.routes routes says.2 h, has_table tables.Tasks middle after conf.tasks tasks says.3 k),
+      )
+  reads_lines walk routes tasks middle (Err fault) early late over h k says =
+      refused_lines fault
+      (subst (λ (found : Option ConfFault). Stands (IsCounted lines before after) found (least_refused lines)) says
+      (found_stands walk routes tasks middle early late over h k))
 
 -- ---- the reading of a text
 
--- the rules were read under the names and lines that the text has
-pub reads_rules_of : (lines : List (List ℕ)) (walk : Walk) (names : List (List ℕ)) (before after : ℕ) (result : Result RuleTable RulesError) → WalksOver lines walk
-    → names ≡ map (λ (cache : CacheConf). cache.name) walk.progress.options.caches → ReadsRules names walk.progress.rules before after result
-    → ReadsRules (cache_names_of lines) (rule_lines_of lines) before after result
-reads_rules_of lines walk names before after result over same reads =
-    subst (λ (rules : List RuleLine). ReadsRules (cache_names_of lines) rules before after result) over.rules
-    (subst (λ (names : List (List ℕ)). ReadsRules names walk.progress.rules before after result)
-    (same ∙ ap (λ (r : ReadSoFar). map (λ (cache : CacheConf). cache.name) r.conf.caches) over.reading) reads)
+-- the names under which both tables were read are those of the lines
+same_names : (lines : List (List ℕ)) (walk : Walk) (names : List (List ℕ)) (areas : ℕ) → WalksOver lines walk
+    → names ≡ map (λ (cache : CacheConf). cache.name) walk.progress.options.caches → areas ≡ length walk.progress.options.areas
+    → record { caches = names; areas = areas } ≡ site_names_of lines
+same_names lines walk names areas over same count =
+    ap (λ (n : List (List ℕ)). record { caches = n; areas = areas }) same
+    ∙ ap (λ (n : ℕ). record { caches = map (λ (cache : CacheConf). cache.name) walk.progress.options.caches; areas = n }) count
+    ∙ ap (λ (r : ReadSoFar). record { caches = map (λ (cache : CacheConf). cache.name) r.conf.caches; areas = length r.conf.areas }) over.reading
+
+-- a table was read under the names and lines that the text has
+reads_table_of : (names site : SiteNames) (rules own : List RuleLine) (before after : ℕ) (result : Result (Result RuleTable ConfFault) Memory) → names ≡ site
+    → rules ≡ own → ReadsTable names rules before after result → ReadsTable site own before after result
+reads_table_of names site rules own before after result same lines reads =
+    subst (λ (r : List RuleLine). ReadsTable site r before after result) lines (subst (λ (n : SiteNames). ReadsTable n rules before after result) same reads)
+
+-- lines are read, behind a walk and the readings of its two tables under the names of its caches
+pub reads_behind : (lines : List (List ℕ)) (before middle after : ℕ) (walk : Walk) (names : List (List ℕ)) (areas : ℕ) (routes tasks : Result RuleTable ConfFault)
+    (result : Result Conf ConfFault) → before ≤ middle → middle ≤ after → WalksOver lines walk
+    → names ≡ map (λ (cache : CacheConf). cache.name) walk.progress.options.caches → areas ≡ length walk.progress.options.areas
+    → ReadsTable (record { caches = names; areas = areas }) walk.progress.routes before middle (Ok routes)
+    → ReadsTable (record { caches = names; areas = areas }) walk.progress.tasks middle after (Ok tasks)
+    → Decides walk routes tasks result → ReadsLines lines before after (of_fault result)
+reads_behind lines before middle after walk names areas routes tasks result early late over same count h k says =
+    let site = same_names lines walk names areas over same count in
+    reads_lines lines before after walk routes tasks middle result early late over
+    (reads_table_of (record { caches = names; areas = areas }) (site_names_of lines) walk.progress.routes (rule_lines_of tables.Requests lines) before middle (Ok routes)
+    site over.routes h)
+    (reads_table_of (record { caches = names; areas = areas }) (site_names_of lines) walk.progress.tasks (rule_lines_of tables.Tasks lines) middle after (Ok tasks)
+    site over.tasks k)
+    says
 
 not_above : (a b : ℕ) → b ≤ a → nat_lt a b ≡ false
 not_above a b h = grind (arith, nat_tests)

@@ -15,7 +15,8 @@ use Rattle.uw_conf.specs.declared.options.OptionKind.TheVariants as of
 use Rattle.uw_conf.specs.Lines.{Line, nothing, section, option, broken, line_of}
 use Rattle.uw_base.specs.Texts.{trimmed}
 use Rattle.uw_conf.specs.Caches.{number_in, with_cache}
-use Rattle.uw_conf.specs.Reading.{ReadSoFar, blank_reading, option_kind, set_number, set_caches, set_option, with_option, with_conf, with_setting, with_broken_line, with_line, read_line, at_line, read_lines}
+use Rattle.uw_conf.specs.AreaLines.{with_area}
+use Rattle.uw_conf.specs.Reading.{ReadSoFar, blank_reading, option_kind, set_areas, set_number, set_caches, set_option, with_option, with_conf, with_setting, with_broken_line, with_line, read_line, at_line, read_lines}
 use Rattle.uw_conf.proofs.RefusalLemmas.{conf_read}
 use Rattle.uw_conf.specs.Configuration.{configuration_of}
 use Rattle.uw_conf.proofs.RefusalLemmas.{own_says}
@@ -148,6 +149,10 @@ caches_left : (conf : Options) (r : Result (List CacheConf) ConfKind) (P : Optio
 caches_left conf (Err kind) P each = tt
 caches_left conf (Ok caches) P each = each caches
 
+areas_left : (conf : Options) (r : Result (List ℕ) ConfKind) (P : Options → Type 0) → ((areas : List ℕ) → P (record conf { areas = areas })) → IfOk (set_areas conf r) P
+areas_left conf (Err kind) P each = tt
+areas_left conf (Ok areas) P each = each areas
+
 set_leaves : (conf : Options) (kind : OptionKind) (value : List ℕ) → IfOk (set_option conf kind value) (FieldsAfter kind value conf)
 set_leaves conf of.BufferSize value = number_left 1 65535 value (λ n. record conf { buffer_size = n }) (FieldsAfter of.BufferSize value conf) (λ n e. record { of_buffer_size = rw e refl; of_workers = refl; of_harakiri = refl; of_expire_freq = refl; of_spoolers = refl; of_spool_freq = refl; of_socket = refl })
 set_leaves conf of.Workers value = number_left 1 64 value (λ n. record conf { workers = n }) (FieldsAfter of.Workers value conf) (λ n e. record { of_buffer_size = refl; of_workers = rw e refl; of_harakiri = refl; of_expire_freq = refl; of_spoolers = refl; of_spool_freq = refl; of_socket = refl })
@@ -156,7 +161,8 @@ set_leaves conf of.ExpireFreq value = number_left 1 3600 value (λ n. record con
 set_leaves conf of.Spoolers value = number_left 1 16 value (λ n. record conf { spoolers = n }) (FieldsAfter of.Spoolers value conf) (λ n e. record { of_buffer_size = refl; of_workers = refl; of_harakiri = refl; of_expire_freq = refl; of_spoolers = rw e refl; of_spool_freq = refl; of_socket = refl })
 set_leaves conf of.SpoolFreq value = number_left 1 3600 value (λ n. record conf { spool_freq = n }) (FieldsAfter of.SpoolFreq value conf) (λ n e. record { of_buffer_size = refl; of_workers = refl; of_harakiri = refl; of_expire_freq = refl; of_spoolers = refl; of_spool_freq = rw e refl; of_socket = refl })
 set_leaves conf of.Socket value = ok_step (FieldsAfter of.Socket value conf) (length value == 0) (Err kinds.BadValue) (Ok (record conf { socket = value })) (λ _. tt) (λ _. record { of_buffer_size = refl; of_workers = refl; of_harakiri = refl; of_expire_freq = refl; of_spoolers = refl; of_spool_freq = refl; of_socket = refl })
-set_leaves conf of.Cache value = caches_left conf (with_cache conf.caches value) (FieldsAfter of.Cache value conf) (λ caches. record { of_buffer_size = refl; of_workers = refl; of_harakiri = refl; of_expire_freq = refl; of_spoolers = refl; of_spool_freq = refl; of_socket = refl })
+set_leaves conf of.Cache value = caches_left conf (with_cache conf.areas conf.caches value) (FieldsAfter of.Cache value conf) (λ caches. record { of_buffer_size = refl; of_workers = refl; of_harakiri = refl; of_expire_freq = refl; of_spoolers = refl; of_spool_freq = refl; of_socket = refl })
+set_leaves conf of.Area value = areas_left conf (with_area conf.caches conf.areas value) (FieldsAfter of.Area value conf) (λ areas. record { of_buffer_size = refl; of_workers = refl; of_harakiri = refl; of_expire_freq = refl; of_spoolers = refl; of_spool_freq = refl; of_socket = refl })
 set_leaves conf of.Rule value = record { of_buffer_size = refl; of_workers = refl; of_harakiri = refl; of_expire_freq = refl; of_spoolers = refl; of_spool_freq = refl; of_socket = refl }
 set_leaves conf of.NoEffect value = record { of_buffer_size = refl; of_workers = refl; of_harakiri = refl; of_expire_freq = refl; of_spoolers = refl; of_spool_freq = refl; of_socket = refl }
 

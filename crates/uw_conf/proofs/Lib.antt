@@ -7,7 +7,7 @@ pub mod RouteLemmas
 pub mod RefusalLemmas
 pub mod OtherSectionLemmas
 pub mod LastLineLemmas
-mod WalkLemmas
-mod RuleTextLemmas
-mod DecideLemmas
-pub mod RouteCacheLemmas
+pub mod WalkLemmas
+pub mod RuleTextLemmas
+pub mod DecideLemmas
+pub mod RoutePartLemmas

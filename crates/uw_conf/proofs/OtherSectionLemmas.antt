@@ -5,7 +5,10 @@ use Rattle.std.specs.Str.Lossy.{utf8_valid_len}
 use Rattle.std.proofs.lemmas.Bool.{cond-true, eq-eqb}
 use Rattle.std.specs.Prelude.{Bool, true, map, Option, if◌then◌else◌}
 use Rattle.uw_model.specs.declared.conf.CacheConf.{CacheConf}
+use Rattle.uw_rules.specs.declared.grammar.Table.{Table}
+use Rattle.uw_rules.specs.declared.grammar.Table.TheVariants as tables
 use Rattle.uw_rules.specs.declared.lines.RuleLine.{RuleLine}
+use Rattle.uw_rules.specs.Arguments.{SiteNames}
 use Rattle.uw_conf.specs.Configuration.{fault_of_reading, lesser_fault, said_by, unless_fault}
 use Rattle.uw_conf.specs.Routes.{first_refused_rule, rule_in, line_of_rule, rules_behind, rules_inside}
 use Rattle.uw_conf.specs.declared.conf.Options.{Options}
@@ -69,19 +72,19 @@ none_either_way : (b : Bool) (rules : List RuleLine) → rules ≡ [] → (if b 
 none_either_way true rules e = e
 none_either_way false rules e = refl
 
-rule_outside : (inside : Option Bool) (number : ℕ) (line : List ℕ) → inside ≡ Some false → rule_in inside number line ≡ []
-rule_outside inside number line outside =
-    none_either_way (utf8_valid_len line == length line) (rules_inside inside (line_of_rule number (line_of (trimmed line))))
-    (ap (λ (x : Option Bool). rules_inside x (line_of_rule number (line_of (trimmed line)))) outside)
+rule_outside : (table : Table) (inside : Option Bool) (number : ℕ) (line : List ℕ) → inside ≡ Some false → rule_in table inside number line ≡ []
+rule_outside table inside number line outside =
+    none_either_way (utf8_valid_len line == length line) (rules_inside inside (line_of_rule table number (line_of (trimmed line))))
+    (ap (λ (x : Option Bool). rules_inside x (line_of_rule table number (line_of (trimmed line)))) outside)
 
-rules_passed : (r : ReadSoFar) (number : ℕ) (others back : List (List ℕ)) → r.inside ≡ Some false → AllByRecursion IsPlainLine others
-    → rules_behind r number (others ++ back) ≡ rules_behind r (number + length others) back
-rules_passed r number [] back outside plain = ap (λ n. rules_behind r n back) (omega arith)
-rules_passed r number (line ∷ others) back outside plain =
-    ap (λ (some : List RuleLine). some ++ rules_behind (unless_refused r (read_line r line)) (number + 1) (others ++ back)) (rule_outside r.inside number line outside)
-    ∙ ap (λ (x : Result ReadSoFar ConfKind). rules_behind (unless_refused r x) (number + 1) (others ++ back)) (passed r line outside plain.0)
-    ∙ rules_passed r (number + 1) others back outside plain.1
-    ∙ ap (λ n. rules_behind r n back) (omega arith)
+rules_passed : (table : Table) (r : ReadSoFar) (number : ℕ) (others back : List (List ℕ)) → r.inside ≡ Some false → AllByRecursion IsPlainLine others
+    → rules_behind table r number (others ++ back) ≡ rules_behind table r (number + length others) back
+rules_passed table r number [] back outside plain = ap (λ n. rules_behind table r n back) (omega arith)
+rules_passed table r number (line ∷ others) back outside plain =
+    ap (λ (some : List RuleLine). some ++ rules_behind table (unless_refused r (read_line r line)) (number + 1) (others ++ back)) (rule_outside table r.inside number line outside)
+    ∙ ap (λ (x : Result ReadSoFar ConfKind). rules_behind table (unless_refused r x) (number + 1) (others ++ back)) (passed r line outside plain.0)
+    ∙ rules_passed table r (number + 1) others back outside plain.1
+    ∙ ap (λ n. rules_behind table r n back) (omega arith)
 
 module _ (others more back : List (List ℕ)) (plain : AllByRecursion IsPlainLine others) (also : AllByRecursion IsPlainLine more) where
   after_replaced : (r : ReadSoFar) (front : List (List ℕ)) → (reading_after r front).inside ≡ Some false
@@ -89,26 +92,33 @@ module _ (others more back : List (List ℕ)) (plain : AllByRecursion IsPlainLin
   after_replaced r [] outside = after_passed r others back outside plain ∙ sym (after_passed r more back outside also)
   after_replaced r (line ∷ front) outside = after_replaced (unless_refused r (read_line r line)) front outside
 
-  rules_replaced : (r : ReadSoFar) (number : ℕ) (front : List (List ℕ)) → length others ≡ length more → (reading_after r front).inside ≡ Some false
-      → rules_behind r number (front ++ (others ++ back)) ≡ rules_behind r number (front ++ (more ++ back))
-  rules_replaced r number [] same outside =
-      rules_passed r number others back outside plain ∙ ap (λ n. rules_behind r (number + n) back) same ∙ sym (rules_passed r number more back outside also)
-  rules_replaced r number (line ∷ front) same outside =
-      ap (λ (rest : List RuleLine). rule_in r.inside number line ++ rest) (rules_replaced (unless_refused r (read_line r line)) (number + 1) front same outside)
+  rules_replaced : (table : Table) (r : ReadSoFar) (number : ℕ) (front : List (List ℕ)) → length others ≡ length more → (reading_after r front).inside ≡ Some false
+      → rules_behind table r number (front ++ (others ++ back)) ≡ rules_behind table r number (front ++ (more ++ back))
+  rules_replaced table r number [] same outside =
+      rules_passed table r number others back outside plain ∙ ap (λ n. rules_behind table r (number + n) back) same ∙ sym (rules_passed table r number more back outside also)
+  rules_replaced table r number (line ∷ front) same outside =
+      ap (λ (rest : List RuleLine). rule_in table r.inside number line ++ rest) (rules_replaced table (unless_refused r (read_line r line)) (number + 1) front same outside)
+
+-- the first refused rule of these, behind a reading
+abbrev first_from : ReadSoFar → List RuleLine → Option ConfFault
+first_from after rules = first_refused_rule (record { caches = map (λ (cache : CacheConf). cache.name) after.conf.caches; areas = length after.conf.areas }) rules 0 rules
 
 -- what lines say, from what their reading gives, what it leaves past refused lines, and their rules
-abbrev said_from : Result ReadSoFar ConfFault → ReadSoFar → List RuleLine → Result Options ConfFault
-said_from read after rules =
-    unless_fault (lesser_fault (fault_of_reading read) (first_refused_rule (map (λ (cache : CacheConf). cache.name) after.conf.caches) rules 0 rules)) after.conf
+abbrev said_from : Result ReadSoFar ConfFault → ReadSoFar → List RuleLine → List RuleLine → Result Options ConfFault
+said_from read after routes tasks = unless_fault (lesser_fault (fault_of_reading read) (lesser_fault (first_from after routes) (first_from after tasks))) after.conf
 
 pub said_replaced : (front others more back : List (List ℕ)) → (reading_after blank_reading front).inside ≡ Some false → AllByRecursion IsPlainLine others
     → AllByRecursion IsPlainLine more → length others ≡ length more → said_by (front ++ (others ++ back)) ≡ said_by (front ++ (more ++ back))
 said_replaced front others more back outside plain also same =
     let one = front ++ (others ++ back) in
     let two = front ++ (more ++ back) in
-    ap (λ (read : Result ReadSoFar ConfFault). said_from read (reading_after blank_reading one) (rules_behind blank_reading 1 one))
+    let routes = rules_behind tables.Requests blank_reading 1 in
+    let tasks = rules_behind tables.Tasks blank_reading 1 in
+    ap (λ (read : Result ReadSoFar ConfFault). said_from read (reading_after blank_reading one) (routes one) (tasks one))
     (replaced blank_reading 1 front others more back outside plain also same)
-    ∙ ap (λ (after : ReadSoFar). said_from (read_lines (Ok blank_reading) 1 two) after (rules_behind blank_reading 1 one))
+    ∙ ap (λ (after : ReadSoFar). said_from (read_lines (Ok blank_reading) 1 two) after (routes one) (tasks one))
     (after_replaced others more back plain also blank_reading front outside)
-    ∙ ap (λ (rules : List RuleLine). said_from (read_lines (Ok blank_reading) 1 two) (reading_after blank_reading two) rules)
-    (rules_replaced others more back plain also blank_reading 1 front same outside)
+    ∙ ap (λ (rules : List RuleLine). said_from (read_lines (Ok blank_reading) 1 two) (reading_after blank_reading two) rules (tasks one))
+    (rules_replaced others more back plain also tables.Requests blank_reading 1 front same outside)
+    ∙ ap (λ (rules : List RuleLine). said_from (read_lines (Ok blank_reading) 1 two) (reading_after blank_reading two) (routes two) rules)
+    (rules_replaced others more back plain also tables.Tasks blank_reading 1 front same outside)

@@ -10,10 +10,12 @@ use Rattle.uw_conf.specs.declared.conf.ConfFault.{ConfFault}
 use Rattle.uw_conf.specs.declared.conf.ConfKind.{ConfKind}
 use Rattle.uw_conf.specs.Reading.{ReadSoFar, blank_reading, read_line, at_line, read_lines, refused_at}
 use Rattle.uw_conf.specs.Configuration.{configuration_of, fault_of_reading, first_refused_option, least_refused, lesser_fault, most_text_bytes, unless_fault}
-use Rattle.uw_conf.specs.Routes.{cache_names_of, first_refused_rule, rule_lines_of}
+use Rattle.uw_rules.specs.declared.grammar.Table.TheVariants as tables
+use Rattle.uw_rules.specs.declared.grammar.Table.{Table}
+use Rattle.uw_conf.specs.Routes.{first_refused_in, rule_lines_of, site_names_of}
 use Rattle.uw_conf.proofs.RouteLemmas.{TellsOf, rules_rise, rules_tell}
 use Rattle.uw_conf.specs.Reading.{reading_after, unless_refused}
-use Rattle.uw_conf.specs.Laws.{IsLeastRefusal, own_refusal_at, refusal, refusal_at, refusal_behind, refusal_from, rule_refusal_on}
+use Rattle.uw_conf.specs.Laws.{IsLeastRefusal, own_refusal_at, refusal, refusal_at, refusal_behind, refusal_from, refusal_in}
 
 -- what a reading has read, without where it stands
 abbrev pub conf_read : Result ReadSoFar ConfFault → Result Options ConfFault
@@ -107,12 +109,18 @@ both_tell one two (Some a) (Some b) h k = lesser (nat_lt b.line a.line) refl
         let above : a.line ≤ b.line = grind (arith, nat_tests) in
         (ap (λ x. option_or x (two a.line)) h.0, λ number less. ap (λ x. option_or x (two number)) (h.1 number less) ∙ k.1 number (omega arith))
 
+-- the first refused rule of a table
+table_tells : (table : Table) (all : List (List ℕ)) → TellsOf (refusal_in table all) (first_refused_in table all)
+table_tells table all = (rules_tell (site_names_of all) (rule_lines_of table all) 0 1 (rule_lines_of table all) (rules_rise table blank_reading 1 all)).0
+
 -- the least refused line of a text
 least_tells : (all : List (List ℕ)) → TellsOf (refusal_at all) (least_refused all)
 least_tells all =
-    both_tell (own_refusal_at all) (rule_refusal_on (cache_names_of all) (rule_lines_of all)) (first_refused_option all)
-    (first_refused_rule (cache_names_of all) (rule_lines_of all) 0 (rule_lines_of all)) (own_tells all (read_lines (Ok blank_reading) 1 all) (reading_tells blank_reading 1 all))
-    (rules_tell (cache_names_of all) (rule_lines_of all) 0 1 (rule_lines_of all) (rules_rise blank_reading 1 all)).0
+    both_tell (own_refusal_at all) (λ number. option_or (refusal_in tables.Requests all number) (refusal_in tables.Tasks all number)) (first_refused_option all)
+    (lesser_fault (first_refused_in tables.Requests all) (first_refused_in tables.Tasks all))
+    (own_tells all (read_lines (Ok blank_reading) 1 all) (reading_tells blank_reading 1 all))
+    (both_tell (refusal_in tables.Requests all) (refusal_in tables.Tasks all) (first_refused_in tables.Requests all) (first_refused_in tables.Tasks all)
+    (table_tells tables.Requests all) (table_tells tables.Tasks all))
 
 -- a text within the limit, by what its lines say
 refused_of : (all : List (List ℕ)) (found : Option ConfFault) (conf : Options) (fault : ConfFault) → TellsOf (refusal_at all) found → unless_fault found conf ≡ Err fault → IsLeastRefusal all fault

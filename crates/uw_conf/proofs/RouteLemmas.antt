@@ -7,7 +7,9 @@ use Rattle.std.specs.Option.{option_and_then, option_map, option_or}
 use Rattle.std.specs.Str.Lossy.{utf8_valid_len}
 use Rattle.std.specs.Prelude.{length, is_some, if◌then◌else◌}
 use Rattle.uw_base.specs.Texts.{trimmed}
+use Rattle.uw_rules.specs.declared.grammar.Table.{Table}
 use Rattle.uw_rules.specs.declared.lines.RuleLine.{RuleLine}
+use Rattle.uw_rules.specs.Arguments.{SiteNames}
 use Rattle.uw_rules.specs.declared.kinds.RuleKind.{RuleKind}
 use Rattle.uw_rules.specs.Grammar.{kind_of_line}
 use Rattle.uw_rules.specs.Rules.{rule_refusal_at}
@@ -16,7 +18,7 @@ use Rattle.uw_conf.specs.declared.conf.ConfKind.{ConfKind}
 use Rattle.uw_conf.specs.declared.conf.ConfKind.TheVariants as kinds
 use Rattle.uw_conf.specs.Lines.{Line, nothing, section, option, broken, line_of}
 use Rattle.uw_conf.specs.Reading.{ReadSoFar, read_line, unless_refused}
-use Rattle.uw_conf.specs.Routes.{first_refused_rule, rule_in, line_of_rule, rule_refused_at, rules_behind, rules_inside}
+use Rattle.uw_conf.specs.Routes.{first_refused_rule, is_option_of, rule_in, line_of_rule, rule_refused_at, rules_behind, rules_inside}
 
 -- ---- the lines rise
 
@@ -44,24 +46,24 @@ one_if : (number : ℕ) (b : Bool) (rules : List RuleLine) → IsOneAt number ru
 one_if number true rules h = h
 one_if number false rules h = tt
 
-one_of_line : (number : ℕ) (line : Line) → IsOneAt number (line_of_rule number line)
-one_of_line number nothing = tt
-one_of_line number (section name) = tt
-one_of_line number (option name value) = one_if number (is_some (kind_of_line name)) _ refl
-one_of_line number broken = tt
+one_of_line : (table : Table) (number : ℕ) (line : Line) → IsOneAt number (line_of_rule table number line)
+one_of_line table number nothing = tt
+one_of_line table number (section name) = tt
+one_of_line table number (option name value) = one_if number (is_option_of table (kind_of_line name)) _ refl
+one_of_line table number broken = tt
 
 one_inside : (number : ℕ) (inside : Option Bool) (rules : List RuleLine) → IsOneAt number rules → IsOneAt number (rules_inside inside rules)
 one_inside number None rules h = tt
 one_inside number (Some false) rules h = tt
 one_inside number (Some true) rules h = h
 
-one_in : (inside : Option Bool) (number : ℕ) (line : List ℕ) → IsOneAt number (rule_in inside number line)
-one_in inside number line = one_if number (utf8_valid_len line == length line) _ (one_inside number inside _ (one_of_line number (line_of (trimmed line))))
+one_in : (table : Table) (inside : Option Bool) (number : ℕ) (line : List ℕ) → IsOneAt number (rule_in table inside number line)
+one_in table inside number line = one_if number (utf8_valid_len line == length line) _ (one_inside number inside _ (one_of_line table number (line_of (trimmed line))))
 
-pub rules_rise : (r : ReadSoFar) (number : ℕ) (all : List (List ℕ)) → RisesFrom number (rules_behind r number all)
-rules_rise r number [] = tt
-rules_rise r number (line ∷ rest) =
-    one_before number (rule_in r.inside number line) _ (one_in r.inside number line) (rules_rise (unless_refused r (read_line r line)) (number + 1) rest)
+pub rules_rise : (table : Table) (r : ReadSoFar) (number : ℕ) (all : List (List ℕ)) → RisesFrom number (rules_behind table r number all)
+rules_rise table r number [] = tt
+rules_rise table r number (line ∷ rest) =
+    one_before number (rule_in table r.inside number line) _ (one_in table r.inside number line) (rules_rise table (unless_refused r (read_line r line)) (number + 1) rest)
 
 -- ---- the least refused rule
 
@@ -78,7 +80,7 @@ told a b = ⊎_elim (λ same. inl same.1) (λ other. inr other.1) (eqb_tells a b
 abbrev pub stands_at : ℕ → RuleLine → Bool
 stands_at number rule = rule.line == number
 
-module _ (names : List (List ℕ)) (all : List RuleLine) where
+module _ (names : SiteNames) (all : List RuleLine) where
   -- why the rule of a line is refused, among those from a place on
   abbrev pub refusal_among : ℕ → List RuleLine → ℕ → Option ConfKind
   refusal_among here rest number = option_map kinds.Rule (option_and_then (λ place. rule_refusal_at names all place false) (position_from (stands_at number) here rest))

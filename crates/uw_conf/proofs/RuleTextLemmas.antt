@@ -11,12 +11,14 @@ use Rattle.std.proofs.lemmas.List.{length-drop, length-reverse, reverse-append, 
 use Rattle.std.proofs.lemmas.Str.{IsCharBoundary-after_ascii, IsCharBoundary-at_seam, IsUtf8-append, IsUtf8-drop, IsUtf8-from_ascii, IsUtf8-from_is_utf8, IsUtf8-nil, IsUtf8-take}
 use Rattle.std.proofs.lemmas.Str.Ascii.{IsAscii-nil}
 use Rattle.uw_base.specs.Texts.{is_blank, without_blanks, trimmed}
+use Rattle.uw_rules.specs.declared.grammar.Table.{Table}
+use Rattle.uw_rules.specs.declared.grammar.LineKind.{LineKind}
 use Rattle.uw_rules.specs.declared.lines.RuleLine.{RuleLine}
 use Rattle.uw_rules.specs.Grammar.{kind_of_line}
 use Rattle.uw_rules.specs.Tables.{AreRuleLines, IsRuleLine}
 use Rattle.uw_rules.proofs.LineLemmas.{after_utf8}
 use Rattle.uw_conf.specs.Lines.{Line, nothing, section, option, broken, ends_with_byte, line_of, option_line}
-use Rattle.uw_conf.specs.Routes.{rule_in, line_of_rule, rules_inside}
+use Rattle.uw_conf.specs.Routes.{is_option_of, rule_in, line_of_rule, rules_inside}
 use Rattle.uw_conf.proofs.RouteLemmas.{RisesFrom}
 
 -- ---- trimmed texts
@@ -135,11 +137,18 @@ rule_if : (b : Bool) (rules : List RuleLine) → (b ≡ true → AllByRecursion 
 rule_if true rules h = h refl
 rule_if false rules h = tt
 
-rule_of : (number : ℕ) (line : Line) → ValueIs (λ value. IsUtf8 value × (length value < 2 ^ 32)) line → AllByRecursion IsRuleLine (line_of_rule number line)
-rule_of number nothing h = tt
-rule_of number (section name) h = tt
-rule_of number (option name value) h = rule_if (is_some (kind_of_line name)) _ (λ known. (record { option = known; text = h.0; short = h.1 }, tt))
-rule_of number broken h = tt
+-- an option of a table is one of rules
+is_known : (table : Table) (kind : Option (Table × LineKind)) → is_option_of table kind ≡ true → is_some kind ≡ true
+is_known table None h = absurd (cc)
+is_known table (Some known) h = refl
+
+rule_of : (table : Table) (number : ℕ) (line : Line) → ValueIs (λ value. IsUtf8 value × (length value < 2 ^ 32)) line
+    → AllByRecursion IsRuleLine (line_of_rule table number line)
+rule_of table number nothing h = tt
+rule_of table number (section name) h = tt
+rule_of table number (option name value) h =
+    rule_if (is_option_of table (kind_of_line name)) _ (λ known. (record { option = is_known table (kind_of_line name) known; text = h.0; short = h.1 }, tt))
+rule_of table number broken h = tt
 
 rules_if_inside : (inside : Option Bool) (rules : List RuleLine) → AllByRecursion IsRuleLine rules → AllByRecursion IsRuleLine (rules_inside inside rules)
 rules_if_inside None rules h = tt
@@ -153,11 +162,11 @@ behind_short line short =
     let cut : length (after_first (λ byte. byte == 61) (trimmed line)) ≤ length (trimmed line) = omega (arith, length-drop (position_or_len (λ byte. byte == 61) (trimmed line) + 1) (trimmed line)) in
     omega arith
 
--- the rule of a short line is one of the request table
-pub rule_in_table : (inside : Option Bool) (number : ℕ) (line : List ℕ) → length line < 2 ^ 32 → AllByRecursion IsRuleLine (rule_in inside number line)
-rule_in_table inside number line short =
+-- the rule of a short line is one of its table
+pub rule_in_table : (table : Table) (inside : Option Bool) (number : ℕ) (line : List ℕ) → length line < 2 ^ 32 → AllByRecursion IsRuleLine (rule_in table inside number line)
+rule_in_table table inside number line short =
     rule_if (utf8_valid_len line == length line) _ (λ valid.
-    rules_if_inside inside _ (rule_of number (line_of (trimmed line)) (value_of (λ value. IsUtf8 value × (length value < 2 ^ 32)) (trimmed line)
+    rules_if_inside inside _ (rule_of table number (line_of (trimmed line)) (value_of (λ value. IsUtf8 value × (length value < 2 ^ 32)) (trimmed line)
     (trimmed_utf8 _ (after_utf8 61 (trimmed line) (omega arith) (trimmed_utf8 line (valid_utf8 line valid))), behind_short line short))))
 
 -- ---- the rules of a table

@@ -1,5 +1,5 @@
 -- The line of a cache: pairs `key=value` joined by commas (own rule; the keys are those of "The Caching framework").
-use Rattle.std.specs.Prelude.{ℕ, ◌*◌, ◌==◌, min, nat_lt, nat_le, Bool, true, false, ◌||◌, ◌&&◌, if◌then◌else◌, List, [], ◌∷◌, ◌++◌, length, codes, Option, None, Some, unwrap_or, Result, Ok, Err, sum_by}
+use Rattle.std.specs.Prelude.{ℕ, ◌==◌, min, nat_lt, nat_le, Bool, true, false, ◌||◌, ◌&&◌, if◌then◌else◌, List, [], ◌∷◌, ◌++◌, length, codes, Option, None, Some, unwrap_or, Result, Ok, Err}
 use Rattle.std.specs.Int.{next_multiple_of}
 use Rattle.std.specs.List.{before_first, after_first, list_any, slice_split}
 use Rattle.std.specs.Str.{bytes_eq}
@@ -7,7 +7,7 @@ use Rattle.uw_base.specs.Numbers.{decimal_of}
 use Rattle.uw_model.specs.declared.conf.CacheConf.{CacheConf}
 use Rattle.uw_conf.specs.declared.conf.ConfKind.{ConfKind}
 use Rattle.uw_conf.specs.declared.conf.ConfKind.TheVariants as kinds
-use Rattle.uw_conf.specs.Sizes.{region_words}
+use Rattle.uw_conf.specs.Regions.{all_bytes, most_region_bytes}
 
 -- what the pairs so far say; whether a key was unknown, and whether a value was bad
 pub record Draft : Type 0 where
@@ -111,30 +111,22 @@ conf_of draft name items = record {
   clear_on_full = draft.clear_on_full;
 }
 
--- the most bytes of all regions, eight for each word
-abbrev pub most_region_bytes : ℕ
-most_region_bytes = 1073741824
-
--- the bytes of all regions, eight for each word
-abbrev pub region_bytes : List CacheConf → ℕ
-region_bytes caches = sum_by (λ conf. 8 * region_words conf) caches
-
--- a cache behind the earlier ones: a name that an earlier one has comes before regions that are too large
-abbrev pub with_cache_conf : List CacheConf → CacheConf → Result (List CacheConf) ConfKind
-with_cache_conf caches conf =
+-- a cache behind the earlier ones, beside the areas so far: a name that an earlier one has comes before regions that are too large
+abbrev pub with_cache_conf : List ℕ → List CacheConf → CacheConf → Result (List CacheConf) ConfKind
+with_cache_conf areas caches conf =
     if list_any (λ (earlier : CacheConf). bytes_eq earlier.name conf.name) caches then Err kinds.NameTwice
-    else (if nat_lt most_region_bytes (region_bytes (caches ++ conf ∷ [])) then Err (kinds.TooLarge (region_bytes (caches ++ conf ∷ [])) most_region_bytes)
+    else (if nat_lt most_region_bytes (all_bytes (caches ++ conf ∷ []) areas) then Err (kinds.TooLarge (all_bytes (caches ++ conf ∷ []) areas) most_region_bytes)
     else Ok (caches ++ conf ∷ []))
 
 -- the cache of a draft behind the earlier ones; a draft without a name or a number of items is none
-abbrev pub with_draft : List CacheConf → Draft → Option (List ℕ) → Option ℕ → Result (List CacheConf) ConfKind
-with_draft caches draft None items = Err kinds.Missing
-with_draft caches draft (Some name) None = Err kinds.Missing
-with_draft caches draft (Some name) (Some items) = with_cache_conf caches (conf_of draft name items)
+abbrev pub with_draft : List ℕ → List CacheConf → Draft → Option (List ℕ) → Option ℕ → Result (List CacheConf) ConfKind
+with_draft areas caches draft None items = Err kinds.Missing
+with_draft areas caches draft (Some name) None = Err kinds.Missing
+with_draft areas caches draft (Some name) (Some items) = with_cache_conf areas caches (conf_of draft name items)
 
 -- the caches with that of a line, the 17th of which is a bad value; all its pairs are looked at, and an unknown key comes before a bad value
-abbrev pub with_cache : List CacheConf → List ℕ → Result (List CacheConf) ConfKind
-with_cache caches text =
+abbrev pub with_cache : List ℕ → List CacheConf → List ℕ → Result (List CacheConf) ConfKind
+with_cache areas caches text =
     if (draft_of text).unknown then Err kinds.UnknownOption
     else (if (draft_of text).bad || nat_le 16 (length caches) then Err kinds.BadValue
-    else with_draft caches (draft_of text) (draft_of text).name (draft_of text).items)
+    else with_draft areas caches (draft_of text) (draft_of text).name (draft_of text).items)

@@ -5,7 +5,8 @@ use Rattle.uw_conf.specs.declared.conf.Options.{Options}
 use Rattle.uw_conf.specs.declared.conf.ConfFault.{ConfFault}
 use Rattle.uw_conf.specs.declared.conf.ConfKind.TheVariants as kinds
 use Rattle.uw_conf.specs.Reading.{ReadSoFar, blank_reading, read_lines, reading_after, refused_at}
-use Rattle.uw_conf.specs.Routes.{cache_names_of, first_refused_rule, rule_lines_of}
+use Rattle.uw_conf.specs.Routes.{first_refused_in}
+use Rattle.uw_rules.specs.declared.grammar.Table.TheVariants as tables
 
 -- the most bytes of a text
 abbrev pub most_text_bytes : ℕ
@@ -28,7 +29,7 @@ lesser_fault (Some fault) (Some other) = if nat_lt other.line fault.line then So
 
 -- the least refused line, where the maker of patterns refuses none
 abbrev pub least_refused : List (List ℕ) → Option ConfFault
-least_refused lines = lesser_fault (first_refused_option lines) (first_refused_rule (cache_names_of lines) (rule_lines_of lines) 0 (rule_lines_of lines))
+least_refused lines = lesser_fault (first_refused_option lines) (lesser_fault (first_refused_in tables.Requests lines) (first_refused_in tables.Tasks lines))
 
 -- options, unless there is a fault
 abbrev pub unless_fault : Option ConfFault → Options → Result Options ConfFault

@@ -2,7 +2,11 @@
 use Rattle.std.specs.Prelude.{◌≡◌, ◌⊎◌, ℕ, ◌≤◌, true, List, length, Some, slice_get, IsSomeAnd, Result, Ok, Err, IfErr}
 use Rattle.std.specs.Str.Lines.{lines}
 use Rattle.uw_outside.specs.Faults.{Rose}
+use Rattle.uw_model.specs.Asks.{DeskParts}
 use Rattle.uw_rules.specs.declared.kinds.RuleKind.TheVariants as refusals
+use Rattle.uw_rules.specs.declared.compiled.RuleTable.{RuleTable}
+use Rattle.uw_rules.specs.declared.grammar.Table.{Table}
+use Rattle.uw_rules.specs.declared.grammar.Table.TheVariants as tables
 use Rattle.uw_rules.specs.declared.lines.RuleLine.{RuleLine}
 use Rattle.uw_rules.specs.Compiled.{rules_of}
 use Rattle.uw_rules.specs.Rules.{place_of_label, table_of, rule_refusal_at}
@@ -14,7 +18,7 @@ use Rattle.uw_conf.specs.declared.conf.ConfError.TheVariants as errors
 use Rattle.uw_conf.specs.declared.conf.ConfKind.TheVariants as kinds
 use Rattle.uw_conf.specs.declared.conf.Options.{Options}
 use Rattle.uw_conf.specs.Configuration.{configuration_of, most_text_bytes, said_by}
-use Rattle.uw_conf.specs.Routes.{cache_names_of, rule_lines_of}
+use Rattle.uw_conf.specs.Routes.{cache_names_of, rule_lines_of, site_names_of}
 
 -- a configuration without its rules
 abbrev pub options_in : Conf → Options
@@ -27,23 +31,33 @@ options_in conf = record {
   spool_freq = conf.spool_freq;
   socket = conf.socket;
   caches = conf.caches;
+  areas = conf.areas;
 }
 
--- the compiled rules are those of the lines of a text
-abbrev pub HasRoutesOf : List (List ℕ) → Conf → Type 0
-HasRoutesOf lines conf = AreRulesOf (cache_names_of lines) (place_of_label (rule_lines_of lines)) (rules_of conf.routes) (table_of (rule_lines_of lines))
+-- the compiled rules are those of a table of the lines of a text
+abbrev pub HasTableOf : Table → List (List ℕ) → RuleTable → Type 0
+HasTableOf table lines rules = AreRulesOf (cache_names_of lines) (place_of_label (rule_lines_of table lines)) (rules_of rules) (table_of (rule_lines_of table lines))
+
+-- the compiled rules of requests and of tasks are those of the lines of a text
+abbrev pub HasRulesOf : List (List ℕ) → Conf → Type 0
+HasRulesOf lines conf = HasTableOf tables.Requests lines conf.routes × HasTableOf tables.Tasks lines conf.tasks
+
+-- how many caches and how many areas a configuration has
+abbrev pub parts_in : Conf → DeskParts
+parts_in conf = record { caches = length conf.caches; areas = length conf.areas }
 
 -- the line is a rule's, which is refused where its pattern is, and no line before it is refused
 pub record IsPatternRefused (lines : List (List ℕ)) (fault : ConfFault) : Type 0 where
+  pub table : Table
   pub here : ℕ
-  pub line : IsSomeAnd (slice_get (rule_lines_of lines) here) (λ (rule : RuleLine). rule.line ≡ fault.line)
-  pub refused : rule_refusal_at (cache_names_of lines) (rule_lines_of lines) here true ≡ Some refusals.PatternRefused
+  pub line : IsSomeAnd (slice_get (rule_lines_of table lines) here) (λ (rule : RuleLine). rule.line ≡ fault.line)
+  pub refused : rule_refusal_at (site_names_of lines) (rule_lines_of table lines) here true ≡ Some refusals.PatternRefused
   pub kind : fault.kind ≡ kinds.Rule refusals.PatternRefused
   pub least : IfErr (said_by lines) (λ (other : ConfFault). fault.line ≤ other.line)
 
 -- a reading of a text is the defined configuration with its rules; or the least refused line; or a rule's line whose pattern the maker of patterns refused and counted,
 -- and before which none is refused
 abbrev pub ReadsConf : List ℕ → ℕ → ℕ → Result Conf ConfError → Type 0
-ReadsConf text before after (Ok conf) = (configuration_of text ≡ Ok (options_in conf)) × HasRoutesOf (lines text) conf
+ReadsConf text before after (Ok conf) = (configuration_of text ≡ Ok (options_in conf)) × HasRulesOf (lines text) conf
 ReadsConf text before after (Err (errors.Refused fault)) = (configuration_of text ≡ Err fault) ⊎ ((length text ≤ most_text_bytes) × IsPatternRefused (lines text) fault × Rose before after)
 ReadsConf text before after (Err errors.Memory) = Unit {0}

@@ -12,11 +12,14 @@ use Rattle.uw_conf.specs.Lines.{Line, nothing, section, option, broken, line_of}
 use Rattle.uw_base.specs.Texts.{trimmed}
 use Rattle.uw_conf.specs.declared.options.OptionKind.{OptionKind}
 use Rattle.uw_conf.specs.declared.options.OptionKind.TheVariants as of
+use Rattle.uw_rules.specs.declared.grammar.Table.{Table}
+use Rattle.uw_rules.specs.declared.grammar.Table.TheVariants as tables
 use Rattle.uw_rules.specs.declared.lines.RuleLine.{RuleLine}
+use Rattle.uw_rules.specs.Arguments.{SiteNames}
 use Rattle.uw_rules.specs.Rules.{rule_refusal_at}
 use Rattle.uw_conf.specs.declared.conf.ConfKind.TheVariants as kinds
 use Rattle.uw_conf.specs.Reading.{ReadSoFar, blank_reading, option_kind, read_line, reading_after}
-use Rattle.uw_conf.specs.Routes.{cache_names_of, rule_lines_of}
+use Rattle.uw_conf.specs.Routes.{rule_lines_of, site_names_of}
 
 -- ---- the least refused line
 
@@ -40,13 +43,17 @@ own_refusal_at lines zero = None
 own_refusal_at lines (suc before) = refusal_from blank_reading lines before
 
 -- why the rule of a line is refused in its table, if the line is a rule's and it is
-abbrev pub rule_refusal_on : List (List ℕ) → List RuleLine → ℕ → Option ConfKind
+abbrev pub rule_refusal_on : SiteNames → List RuleLine → ℕ → Option ConfKind
 rule_refusal_on names rules number =
     option_map kinds.Rule (option_and_then (λ place. rule_refusal_at names rules place false) (position_from (λ (rule : RuleLine). rule.line == number) 0 rules))
 
--- why the line of a number is refused: by itself, or as a rule of the table
+-- why the line of a number is refused as a rule of a table, if it is
+abbrev pub refusal_in : Table → List (List ℕ) → ℕ → Option ConfKind
+refusal_in table lines number = rule_refusal_on (site_names_of lines) (rule_lines_of table lines) number
+
+-- why the line of a number is refused: by itself, or as a rule of either table
 abbrev pub refusal_at : List (List ℕ) → ℕ → Option ConfKind
-refusal_at lines number = option_or (own_refusal_at lines number) (rule_refusal_on (cache_names_of lines) (rule_lines_of lines) number)
+refusal_at lines number = option_or (own_refusal_at lines number) (option_or (refusal_in tables.Requests lines number) (refusal_in tables.Tasks lines number))
 
 -- the line of the fault is refused for its kind, and none before it is refused
 pub record IsLeastRefusal (lines : List (List ℕ)) (fault : ConfFault) : Type 0 where
@@ -93,6 +100,7 @@ kind_number of.Socket = 6
 kind_number of.Cache = 7
 kind_number of.NoEffect = 8
 kind_number of.Rule = 9
+kind_number of.Area = 10
 
 -- a name is that of the option
 abbrev pub is_kind : OptionKind → Option OptionKind → Bool

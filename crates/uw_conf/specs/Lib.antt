@@ -1,6 +1,8 @@
 pub mod Lines
 pub mod Sizes
+pub mod Regions
 pub mod Caches
+pub mod AreaLines
 pub mod Reading
 pub mod Routes
 pub mod Configuration

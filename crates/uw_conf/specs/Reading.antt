@@ -12,6 +12,7 @@ use Rattle.uw_conf.specs.declared.options.OptionKind.{OptionKind}
 use Rattle.uw_conf.specs.declared.options.OptionKind.TheVariants as of
 use Rattle.uw_conf.specs.Lines.{Line, nothing, section, option, broken, line_of}
 use Rattle.uw_base.specs.Texts.{trimmed}
+use Rattle.uw_conf.specs.AreaLines.{with_area}
 use Rattle.uw_conf.specs.Caches.{number_in, with_cache}
 use Rattle.uw_rules.specs.Grammar.{kind_of_line}
 
@@ -31,6 +32,7 @@ blank_conf = record {
   spool_freq = 30;
   socket = [];
   caches = [];
+  areas = [];
 }
 
 -- options that are taken with any value, and have no effect
@@ -51,8 +53,9 @@ option_kind name =
     else (if bytes_eq name (codes "spooler-frequency") then Some of.SpoolFreq
     else (if bytes_eq name (codes "socket") then Some of.Socket
     else (if bytes_eq name (codes "cache2") then Some of.Cache
+    else (if bytes_eq name (codes "sharedarea") then Some of.Area
     else (if is_some (kind_of_line name) then Some of.Rule
-    else (if is_passed_over name then Some of.NoEffect else None)))))))))
+    else (if is_passed_over name then Some of.NoEffect else None))))))))))
 
 -- a number within its limits, or a bad value
 abbrev pub set_number : Option ℕ → (ℕ → Options) → Result Options ConfKind
@@ -64,6 +67,11 @@ abbrev pub set_caches : Options → Result (List CacheConf) ConfKind → Result 
 set_caches conf (Err kind) = Err kind
 set_caches conf (Ok caches) = Ok (record conf { caches = caches })
 
+-- the areas of a line, or why the line is refused
+abbrev pub set_areas : Options → Result (List ℕ) ConfKind → Result Options ConfKind
+set_areas conf (Err kind) = Err kind
+set_areas conf (Ok areas) = Ok (record conf { areas = areas })
+
 -- an option with its value; what a rule says is not among the options
 abbrev pub set_option : Options → OptionKind → List ℕ → Result Options ConfKind
 set_option conf of.BufferSize value = set_number (number_in 1 65535 value) (λ n. record conf { buffer_size = n })
@@ -73,7 +81,8 @@ set_option conf of.ExpireFreq value = set_number (number_in 1 3600 value) (λ n.
 set_option conf of.Spoolers value = set_number (number_in 1 16 value) (λ n. record conf { spoolers = n })
 set_option conf of.SpoolFreq value = set_number (number_in 1 3600 value) (λ n. record conf { spool_freq = n })
 set_option conf of.Socket value = if length value == 0 then Err kinds.BadValue else Ok (record conf { socket = value })
-set_option conf of.Cache value = set_caches conf (with_cache conf.caches value)
+set_option conf of.Cache value = set_caches conf (with_cache conf.areas conf.caches value)
+set_option conf of.Area value = set_areas conf (with_area conf.caches conf.areas value)
 set_option conf of.Rule value = Ok conf
 set_option conf of.NoEffect value = Ok conf
 

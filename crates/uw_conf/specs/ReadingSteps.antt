@@ -10,6 +10,7 @@ use Rattle.uw_conf.specs.declared.refusal.Refusal.{Refusal}
 use Rattle.uw_conf.specs.declared.refusal.Refusal.TheVariants as refusals
 use Rattle.uw_conf.specs.Lines.{Line, nothing, section, option, broken}
 use Rattle.uw_conf.specs.Caches.{Draft}
+use Rattle.uw_rules.specs.declared.grammar.Table.TheVariants as tables
 use Rattle.uw_rules.specs.declared.lines.RuleLine.{RuleLine}
 use Rattle.uw_conf.specs.declared.conf.ConfFault.{ConfFault}
 use Rattle.uw_conf.specs.declared.reading.Walk.{Walk}
@@ -76,9 +77,9 @@ progress_seen progress = record {
 }
 
 -- unless memory is wanted, a step puts these rules behind those before it
-abbrev pub PutsRules : {U : Type 0} → Progress → Progress → Result U Refusal → List RuleLine → Type 0
-PutsRules before now (Ok done) rules = now.rules ≡ before.rules ++ rules
-PutsRules before now (Err (refusals.Refused kind)) rules = now.rules ≡ before.rules ++ rules
+abbrev pub PutsRules : {U : Type 0} → List RuleLine → List RuleLine → Result U Refusal → List RuleLine → Type 0
+PutsRules before now (Ok done) rules = now ≡ before ++ rules
+PutsRules before now (Err (refusals.Refused kind)) rules = now ≡ before ++ rules
 PutsRules before now (Err refusals.Memory) rules = Unit {0}
 
 -- the fault of a line with a number, if it is refused
@@ -86,14 +87,16 @@ abbrev pub fault_of_line : ℕ → Result ReadSoFar ConfKind → Option ConfFaul
 fault_of_line number (Ok r) = None
 fault_of_line number (Err kind) = Some (refused_at number kind)
 
--- a walk behind one more line: past it where it is refused, with its rule, and with its fault where it is the first
+-- a walk behind one more line: past it where it is refused, with its rule in its table, and with its fault where it is the first
 pub record StepsOver (number : ℕ) (line : List ℕ) (before now : Walk) : Type 0 where
   pub reading : progress_seen now.progress ≡ unless_refused (progress_seen before.progress) (read_line (progress_seen before.progress) line)
-  pub rules : now.progress.rules ≡ before.progress.rules ++ rule_in before.progress.inside number line
+  pub routes : now.progress.routes ≡ before.progress.routes ++ rule_in tables.Requests before.progress.inside number line
+  pub tasks : now.progress.tasks ≡ before.progress.tasks ++ rule_in tables.Tasks before.progress.inside number line
   pub fault : now.fault ≡ option_or before.fault (fault_of_line number (read_line (progress_seen before.progress) line))
 
 -- a walk over all lines
 pub record WalksOver (lines : List (List ℕ)) (walk : Walk) : Type 0 where
   pub reading : progress_seen walk.progress ≡ reading_after blank_reading lines
-  pub rules : walk.progress.rules ≡ rule_lines_of lines
+  pub routes : walk.progress.routes ≡ rule_lines_of tables.Requests lines
+  pub tasks : walk.progress.tasks ≡ rule_lines_of tables.Tasks lines
   pub fault : walk.fault ≡ first_refused_option lines

@@ -1,5 +1,5 @@
--- The words of a cache's region (own rule).
-use Rattle.std.specs.Prelude.{ℕ, ◌+◌, ◌*◌, ◌/◌}
+-- The words of a region (own rule).
+use Rattle.std.specs.Prelude.{ℕ, ◌+◌, ◌*◌, ◌/◌, min}
 use Rattle.std.specs.Int.{div_ceil}
 use Rattle.uw_model.specs.declared.conf.CacheConf.{CacheConf}
 use Rattle.uw_model.specs.Entries.{max_value}
@@ -25,3 +25,11 @@ abbrev pub region_words : CacheConf → ℕ
 region_words conf =
     16 + bitmap_words conf + conf.chains + conf.items * (8 + key_words conf) + conf.blocks * block_words conf
     + 3 * (32 + 16 * (conf.items + 1) + key_words conf + value_words conf + bitmap_words conf)
+
+-- words of an area's bytes
+abbrev pub byte_words : ℕ → ℕ
+byte_words size = div_ceil size 8
+
+-- the region of an area of so many bytes: the header, the bytes and the intent
+abbrev pub area_words : ℕ → ℕ
+area_words size = 16 + byte_words size + 3 * (8 + min 8194 (byte_words size))

@@ -7,22 +7,19 @@ ghost use Rattle.uw_model.specs.Entries.{IsCacheConf};
 ghost use Rattle.uw_conf.specs.ReadingSteps.{Makes};
 ghost use Rattle.uw_conf.specs.Caches.{conf_of, with_cache_conf, with_draft, with_cache};
 ghost use Rattle.uw_conf.specs.ReadingSteps.{draft_seen};
-ghost use Rattle.uw_conf.specs.Sound.{AreCaches};
+ghost use Rattle.uw_conf.specs.Sound.{ArePartsOfSite};
 ghost use Rattle.uw_conf.specs.ReadingSteps.{IsDraft};
 
 use crate::ConfKind;
 use crate::draft::{CacheDraft, draft_of};
 use crate::refusal::Refusal;
-use crate::sizes::{region_bytes, region_words};
+use crate::sizes::{MOST_REGION_BYTES, area_bytes, region_bytes, region_words};
 use std::alloc::Global;
 use uw_base::texts::is;
 use uw_base::{Bytes, Memory};
 use uw_model::{CacheConf, CacheConfList};
 
 const MOST_CACHES: usize = 16;
-
-/// The most bytes of all regions.
-const MOST_REGION_BYTES: u64 = 1_073_741_824;
 
 /// The most chains where none are said.
 const DEFAULT_CHAINS: u64 = 65_536;
@@ -67,16 +64,22 @@ fn has_name(caches: &[CacheConf], name: &[u8]) -> bool
     false
 }
 
-// A cache behind the earlier ones.
-fn add_cache_conf(alloc: Global, caches: &mut CacheConfList, conf: CacheConf) -> Result<(), Refusal>
-    requires caches { AreCaches caches.old }
+// A cache behind the earlier ones, beside the areas so far.
+fn add_cache_conf(
+    alloc: Global,
+    areas: &[u64],
+    caches: &mut CacheConfList,
+    conf: CacheConf,
+) -> Result<(), Refusal>
+    requires parts { ArePartsOfSite caches.old areas.now }
     requires conf { IsCacheConf conf }
-    ensures { Makes caches.old caches.new result (with_cache_conf caches.old conf) }
+    ensures { Makes caches.old caches.new result (with_cache_conf areas.now caches.old conf) }
 {
     if has_name(caches.as_slice(), conf.name.as_slice()) {
         return Err(Refusal::Refused(ConfKind::NameTwice));
     }
-    let bytes = region_bytes(caches.as_slice()) + 8 * region_words(&conf);
+    let own = region_bytes(caches.as_slice()) + 8 * region_words(&conf);
+    let bytes = own + area_bytes(areas);
     if MOST_REGION_BYTES < bytes {
         return Err(Refusal::Refused(ConfKind::TooLarge {
             bytes,
@@ -90,13 +93,14 @@ fn add_cache_conf(alloc: Global, caches: &mut CacheConfList, conf: CacheConf) ->
 // The cache of a draft, behind the earlier ones.
 fn add_draft(
     alloc: Global,
+    areas: &[u64],
     caches: &mut CacheConfList,
     draft: &CacheDraft<'_>,
 ) -> Result<(), Refusal>
-    requires caches { AreCaches caches.old }
+    requires parts { ArePartsOfSite caches.old areas.now }
     requires draft { IsDraft (draft_seen draft.now) }
     ensures { Makes caches.old caches.new result
-        (with_draft caches.old (draft_seen draft.now) (draft_seen draft.now).name (draft_seen draft.now).items) }
+        (with_draft areas.now caches.old (draft_seen draft.now) (draft_seen draft.now).name (draft_seen draft.now).items) }
 {
     let Some(name) = draft.name else {
         return Err(Refusal::Refused(ConfKind::Missing));
@@ -105,14 +109,19 @@ fn add_draft(
         return Err(Refusal::Refused(ConfKind::Missing));
     };
     let conf = conf_of(alloc, draft, name, items)?;
-    add_cache_conf(alloc, caches, conf)
+    add_cache_conf(alloc, areas, caches, conf)
 }
 
 /// Puts the cache of a line behind the others, or says why the line is refused and changes nothing. All its pairs are
-/// looked at; the 17th cache is a bad value.
-pub fn add_cache_line(alloc: Global, caches: &mut CacheConfList, text: &[u8]) -> Result<(), Refusal>
-    requires { AreCaches caches.old }
-    ensures { Makes caches.old caches.new result (with_cache caches.old text.now) }
+/// looked at; the 17th cache is a bad value. All regions together, those of the areas so far among them, have their limit.
+pub fn add_cache_line(
+    alloc: Global,
+    areas: &[u64],
+    caches: &mut CacheConfList,
+    text: &[u8],
+) -> Result<(), Refusal>
+    requires { ArePartsOfSite caches.old areas.now }
+    ensures { Makes caches.old caches.new result (with_cache areas.now caches.old text.now) }
 {
     let draft = draft_of(text);
     if draft.unknown {
@@ -121,5 +130,5 @@ pub fn add_cache_line(alloc: Global, caches: &mut CacheConfList, text: &[u8]) ->
     if draft.bad || MOST_CACHES <= caches.len() {
         return Err(Refusal::Refused(ConfKind::BadValue));
     }
-    add_draft(alloc, caches, &draft)
+    add_draft(alloc, areas, caches, &draft)
 }

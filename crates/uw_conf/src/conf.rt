@@ -2,7 +2,7 @@
 ghost use Rattle.std.specs.Prelude.{◌≡◌};
 ghost use Rattle.uw_conf.specs.Given.{options_in};
 
-use uw_base::{Bytes, Memory};
+use uw_base::{Bytes, Memory, NumberList};
 use uw_model::CacheConfList;
 use uw_rules::{RuleKind, RuleTable};
 
@@ -17,6 +17,7 @@ pub struct Options {
     pub spool_freq: u64,
     pub socket: Bytes,
     pub caches: CacheConfList,
+    pub areas: NumberList,
 }
 
 /// What a configuration says.
@@ -38,15 +39,20 @@ pub struct Conf {
     pub socket: Bytes,
     /// The caches, at most 16.
     pub caches: CacheConfList,
+    /// The sizes of the shared areas in bytes, at most 16.
+    pub areas: NumberList,
     /// The rules of requests.
     pub routes: RuleTable,
+    /// The rules of tasks.
+    pub tasks: RuleTable,
 }
 
 impl Options {
-    /// The configuration of these options and rules.
-    pub fn with_routes(self, routes: RuleTable) -> Conf
+    /// The configuration of these options, rules of requests and rules of tasks.
+    pub fn with_rules(self, routes: RuleTable, tasks: RuleTable) -> Conf
         ensures options { options_in result ≡ self }
         ensures routes { result.routes ≡ routes }
+        ensures tasks { result.tasks ≡ tasks }
     {
         Conf {
             buffer_size: self.buffer_size,
@@ -57,7 +63,9 @@ impl Options {
             spool_freq: self.spool_freq,
             socket: self.socket,
             caches: self.caches,
+            areas: self.areas,
             routes,
+            tasks,
         }
     }
 }

@@ -1,24 +1,22 @@
-// What a configuration says, or its least refused line, from a walk over its lines and from the table of its rules.
-ghost use Rattle.std.specs.Prelude.{◌≡◌, ◌<◌, ◌^◌, ℕ, List, Some, Ok, Err, IfOk, length};
-ghost use Rattle.uw_rules.specs.CacheNumbers.{AskCachesBelow};
+// What a configuration says, or its least refused line, from a walk over its lines and from the tables of its rules.
+ghost use Rattle.std.specs.Prelude.{◌≡◌, ◌≤◌, ◌<◌, ◌^◌, ℕ, List, Some, Ok, IfOk, length};
 ghost use Rattle.uw_rules.specs.Compiled.{rules_of};
+ghost use Rattle.uw_rules.specs.PartNumbers.{AskPartsBelow};
 ghost use Rattle.uw_rules.specs.Tables.{AreRuleLines};
 ghost use Rattle.uw_conf.specs.Configuration.{lesser_fault};
-ghost use Rattle.uw_conf.specs.DecidingSteps.{Decides, ReadsLines};
-ghost use Rattle.uw_conf.specs.Given.{ReadsConf};
+ghost use Rattle.uw_conf.specs.DecidingSteps.{Decides, ReadsLines, ReadsTable};
+ghost use Rattle.uw_conf.specs.Given.{ReadsConf, parts_in};
 ghost use Rattle.uw_conf.specs.ReadingSteps.{WalksOver};
-ghost use Rattle.uw_conf.specs.Sound.{AreCaches};
+ghost use Rattle.uw_conf.specs.Sound.{ArePartsOfSite};
 
 use crate::reading::{Walk, walk_over};
 use crate::{Conf, ConfError, ConfFault, ConfKind};
 use std::alloc::Global;
-use uw_rules::{Patterns, RuleTable, RulesError, read_rules};
+use uw_base::{BytesList, Memory};
+use uw_rules::{Patterns, RuleLineList, RuleTable, RulesError, read_rules};
 
 /// The most bytes of a text.
 const MOST_TEXT_BYTES: usize = 1_048_576;
-
-/// There are no shared areas yet.
-const NO_AREAS: u32 = 0;
 
 // The fault of the lesser line.
 fn lesser(own: Option<ConfFault>, rule: ConfFault) -> ConfFault
@@ -30,60 +28,87 @@ fn lesser(own: Option<ConfFault>, rule: ConfFault) -> ConfFault
     }
 }
 
-// The configuration of a table that was read, unless another line is refused.
-fn with_routes(walk: Walk, routes: RuleTable) -> Result<Conf, ConfError>
-    ensures { (lines : List (List ℕ)) (before after : ℕ) → Decides lines walk before after (Ok routes) result }
+// The configuration of both tables, unless another line is refused.
+fn with_tables(walk: Walk, routes: RuleTable, tasks: RuleTable) -> Result<Conf, ConfFault>
+    ensures { Decides walk (Ok routes) (Ok tasks) result }
 {
     match walk.fault {
-        None => Ok(walk.progress.options.with_routes(routes)),
-        Some(fault) => Err(ConfError::Refused(fault)),
+        None => Ok(walk.progress.options.with_rules(routes, tasks)),
+        Some(fault) => Err(fault),
     }
 }
 
-// The least refused line, where a rule's is refused.
-fn refused(walk: Walk, error: RulesError) -> ConfError
-    ensures { (lines : List (List ℕ)) (before after : ℕ) → Decides lines walk before after (Err error) (Err result) }
+// The configuration, or its least refused line, behind a walk over its lines and the readings of its two tables.
+fn decided(
+    walk: Walk,
+    routes: Result<RuleTable, ConfFault>,
+    tasks: Result<RuleTable, ConfFault>,
+) -> Result<Conf, ConfFault>
+    ensures { Decides walk routes tasks result }
 {
-    match error {
-        RulesError::Refused { line, kind } => {
-            let kind = ConfKind::Rule(kind);
-            ConfError::Refused(lesser(walk.fault, ConfFault { line, kind }))
-        }
-        RulesError::Memory => ConfError::Memory,
+    match routes {
+        Ok(routes) => match tasks {
+            Ok(tasks) => with_tables(walk, routes, tasks),
+            Err(task) => Err(lesser(walk.fault, task)),
+        },
+        Err(route) => match tasks {
+            Ok(_) => Err(lesser(walk.fault, route)),
+            Err(task) => Err(lesser(walk.fault, lesser(Some(route), task))),
+        },
     }
 }
 
-/// The configuration, or its least refused line, behind a walk over its lines and a reading of its rules.
-pub fn decided(walk: Walk, rules: Result<RuleTable, RulesError>) -> Result<Conf, ConfError>
-    ensures { (lines : List (List ℕ)) (before after : ℕ) → Decides lines walk before after rules result }
+// A table of rules, or its first refused line.
+fn read_table<M: Patterns>(
+    alloc: Global,
+    rules: &RuleLineList,
+    names: &BytesList,
+    areas: u32,
+    make: &mut M,
+) -> Result<Result<RuleTable, ConfFault>, Memory>
+    requires rules { AreRuleLines rules.now }
+    requires names { length names.now < 2 ^ 32 }
+    ensures reads { ReadsTable (record { caches = names.now; areas = areas }) rules.now (M.faults make.old) (M.faults make.new) result }
+    ensures later { M.faults make.old ≤ M.faults make.new }
 {
-    match rules {
-        Ok(routes) => with_routes(walk, routes),
-        Err(error) => Err(refused(walk, error)),
+    match read_rules(alloc, rules, names, areas, make) {
+        Ok(table) => Ok(Ok(table)),
+        Err(RulesError::Refused { line, kind }) => Ok(Err(ConfFault {
+            line,
+            kind: ConfKind::Rule(kind),
+        })),
+        Err(RulesError::Memory) => Err(Memory),
     }
 }
 
-// What lines say, behind a walk over them.
-fn read_table<M: Patterns>(alloc: Global, walk: Walk, make: &mut M) -> Result<Conf, ConfError>
-    requires rules { AreRuleLines walk.progress.rules }
-    requires caches { AreCaches walk.progress.options.caches }
+// What lines say, behind a walk over them. Both tables are read, since the least line counts.
+fn read_tables<M: Patterns>(alloc: Global, walk: Walk, make: &mut M) -> Result<Conf, ConfError>
+    requires routes { AreRuleLines walk.progress.routes }
+    requires tasks { AreRuleLines walk.progress.tasks }
+    requires parts { ArePartsOfSite walk.progress.options.caches walk.progress.options.areas }
     ensures { (lines : List (List ℕ)) → WalksOver lines walk
         → ReadsLines lines (M.faults make.old) (M.faults make.new) result }
 {
     let names = walk.progress.options.caches.names();
-    let rules = read_rules(alloc, &walk.progress.rules, names, NO_AREAS, make);
-    decided(walk, rules)
+    let areas = walk.progress.options.areas.as_slice().len() as u32;
+    let routes = read_table(alloc, &walk.progress.routes, names, areas, make)?;
+    let tasks = read_table(alloc, &walk.progress.tasks, names, areas, make)?;
+    match decided(walk, routes, tasks) {
+        Ok(conf) => Ok(conf),
+        Err(fault) => Err(ConfError::Refused(fault)),
+    }
 }
 
 /// What a configuration says: its options in the section `uwsgi`, each on a line of its own, with its rules, whose
 /// patterns `make` compiles; or its least refused line. A text that is too large is refused as a whole. A rule is
-/// refused as `PatternRefused` only where `make` refused its pattern and counted that. The rules ask caches of the
-/// configuration alone, by their places in it.
+/// refused as `PatternRefused` only where `make` refused its pattern and counted that. The rules ask caches and
+/// areas of the configuration alone, by their places in it.
 pub fn read_conf<M: Patterns>(alloc: Global, text: &[u8], make: &mut M) -> Result<Conf, ConfError>
     requires { length text.now < 2 ^ 32 }
     ensures says { ReadsConf text.now (M.faults make.old) (M.faults make.new) result }
-    ensures sound { IfOk result (λ conf. AreCaches conf.caches) }
-    ensures routes { IfOk result (λ conf. AskCachesBelow (length conf.caches) (rules_of conf.routes)) }
+    ensures sound { IfOk result (λ conf. ArePartsOfSite conf.caches conf.areas) }
+    ensures routes { IfOk result (λ conf. AskPartsBelow (parts_in conf) (rules_of conf.routes)) }
+    ensures tasks { IfOk result (λ conf. AskPartsBelow (parts_in conf) (rules_of conf.tasks)) }
 {
     if MOST_TEXT_BYTES < text.len() {
         return Err(ConfError::Refused(ConfFault {
@@ -95,5 +120,5 @@ pub fn read_conf<M: Patterns>(alloc: Global, text: &[u8], make: &mut M) -> Resul
         }));
     }
     let walk = walk_over(alloc, text)?;
-    read_table(alloc, walk, make)
+    read_tables(alloc, walk, make)
 }

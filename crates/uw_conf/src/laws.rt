@@ -3,26 +3,34 @@ ghost use Rattle.std.specs.Prelude.{◌≡◌, ℕ, ◌≤◌, ◌++◌, List, [
 ghost use Rattle.std.specs.List.{AllByRecursion};
 ghost use Rattle.std.specs.Str.Lines.{lines};
 ghost use Rattle.uw_model.specs.declared.conf.CacheConf.{CacheConf};
+ghost use Rattle.uw_model.specs.AreaOps.{IsAreaSize};
 ghost use Rattle.uw_model.specs.Entries.{IsCacheConf};
 ghost use Rattle.uw_conf.specs.declared.conf.Options.{Options};
-ghost use Rattle.uw_conf.specs.Caches.{blank_draft, conf_of, region_bytes, most_region_bytes};
+ghost use Rattle.uw_conf.specs.Caches.{blank_draft, conf_of};
 ghost use Rattle.uw_conf.specs.declared.conf.ConfFault.{ConfFault};
 ghost use Rattle.uw_conf.specs.declared.options.OptionKind.TheVariants as of;
 ghost use Rattle.uw_conf.specs.Configuration.{configuration_of, most_text_bytes, said_by};
 ghost use Rattle.uw_conf.specs.Laws.{IsLeastRefusal, IsPlainLine, last_value, number_or, refusal_at, settings_of};
 ghost use Rattle.uw_conf.specs.Reading.{blank_reading, reading_after};
-ghost use Rattle.uw_conf.specs.Routes.{cache_names_of};
-ghost use Rattle.uw_conf.specs.Sizes.{region_words};
+ghost use Rattle.uw_conf.specs.Regions.{all_bytes, most_region_bytes};
+ghost use Rattle.uw_conf.specs.Routes.{cache_names_of, site_names_of};
+ghost use Rattle.uw_conf.specs.Sizes.{area_words, region_words};
 ghost use Rattle.uw_conf.specs.Sound.{HasLimits, HaveOwnNames};
 
 /// A text that is not refused defines at most 16 caches, each with its numbers within their limits and with a name of its
-/// own, and their regions together are within theirs.
+/// own, and all regions together are within theirs, those of its areas among them.
 pub fn caches_are_within_their_limits()
     ensures each { (text : List ℕ) (conf : Options) → configuration_of text ≡ Ok conf → AllByRecursion IsCacheConf conf.caches }
     ensures few { (text : List ℕ) (conf : Options) → configuration_of text ≡ Ok conf → length conf.caches ≤ 16 }
     ensures names { (text : List ℕ) (conf : Options) → configuration_of text ≡ Ok conf → HaveOwnNames conf.caches }
     ensures small { (text : List ℕ) (conf : Options) → configuration_of text ≡ Ok conf
-        → region_bytes conf.caches ≤ most_region_bytes }
+        → all_bytes conf.caches conf.areas ≤ most_region_bytes }
+{}
+
+/// A text that is not refused defines at most 16 areas, each of 1 to 16,777,216 bytes.
+pub fn areas_are_within_their_limits()
+    ensures each { (text : List ℕ) (conf : Options) → configuration_of text ≡ Ok conf → AllByRecursion IsAreaSize conf.areas }
+    ensures few { (text : List ℕ) (conf : Options) → configuration_of text ≡ Ok conf → length conf.areas ≤ 16 }
 {}
 
 /// A text that is not refused leaves each other number within its limits, whether it says the number or not.
@@ -33,6 +41,11 @@ pub fn numbers_are_within_their_limits()
 /// A cache of 20,000 items for which nothing else is said takes this many words.
 pub fn default_cache_has_its_words()
     ensures { (name : List ℕ) → region_words (conf_of blank_draft name 20000) ≡ 170126756 }
+{}
+
+/// An area of one page takes this many words.
+pub fn an_area_of_one_page_has_its_words()
+    ensures { area_words 4096 ≡ 2088 }
 {}
 
 /// The refused line of a text within the limit is its least line that has a refusal, where those before it define what
@@ -64,10 +77,13 @@ pub fn options_count_by_their_last_line()
         → conf.socket ≡ unwrap_or (last_value of.Socket (settings_of text)) [] }
 {}
 
-/// The names under which the rules of a text are read are those of its caches, in their order.
+/// The names under which the rules of a text are read are those of its caches, in their order, and there are as many
+/// areas as it has.
 pub fn a_configuration_names_its_caches()
-    ensures { (text : List ℕ) (conf : Options) → configuration_of text ≡ Ok conf
+    ensures caches { (text : List ℕ) (conf : Options) → configuration_of text ≡ Ok conf
         → cache_names_of (lines text) ≡ map (λ (cache : CacheConf). cache.name) conf.caches }
+    ensures areas { (text : List ℕ) (conf : Options) → configuration_of text ≡ Ok conf
+        → (site_names_of (lines text)).areas ≡ length conf.areas }
 {}
 
 /// Lines of other sections change nothing, as long as each is a text of UTF-8: as many other ones in their place leave

@@ -1,6 +1,7 @@
 //! The configuration: what a text of options and rules says, or its least refused line.
 #![tactic(auto)]
 
+mod areas;
 mod caches;
 pub mod conf;
 mod deciding;
@@ -15,7 +16,7 @@ mod values;
 
 pub use conf::{Conf, ConfError, ConfFault, ConfKind, Options};
 pub use deciding::read_conf;
-pub use sizes::region_words;
+pub use sizes::{area_words, region_words};
 
 #[cfg(test)]
 mod tests;

@@ -1,12 +1,14 @@
 // The options of the section.
 ghost use Rattle.std.specs.Prelude.{◌≡◌, ◌==◌, if◌then◌else◌, length, Ok, Err};
 ghost use Rattle.uw_conf.specs.ReadingSteps.{Makes};
+ghost use Rattle.uw_conf.specs.AreaLines.{with_area};
 ghost use Rattle.uw_conf.specs.Caches.{number_in, with_cache};
-ghost use Rattle.uw_conf.specs.Reading.{is_passed_over, option_kind, set_caches, set_number, set_option, with_option};
-ghost use Rattle.uw_conf.specs.Sound.{AreCaches};
+ghost use Rattle.uw_conf.specs.Reading.{is_passed_over, option_kind, set_areas, set_caches, set_number, set_option, with_option};
+ghost use Rattle.uw_conf.specs.Sound.{ArePartsOfSite};
 ghost use Rattle.uw_conf.specs.declared.conf.ConfKind.TheVariants as kinds;
 
 use crate::ConfKind;
+use crate::areas::add_area_line;
 use crate::caches::add_cache_line;
 use crate::conf::Options;
 use crate::refusal::Refusal;
@@ -27,6 +29,7 @@ pub enum OptionKind {
     SpoolFreq,
     Socket,
     Cache,
+    Area,
     /// A rule, which says nothing of the other options.
     Rule,
     /// Taken with any value, and without effect.
@@ -111,10 +114,19 @@ fn set_socket(alloc: Global, options: &mut Options, value: &[u8]) -> Result<(), 
 }
 
 fn add_cache(alloc: Global, options: &mut Options, value: &[u8]) -> Result<(), Refusal>
-    requires { AreCaches options.old.caches }
-    ensures { Makes options.old options.new result (set_caches options.old (with_cache options.old.caches value.now)) }
+    requires { ArePartsOfSite options.old.caches options.old.areas }
+    ensures { Makes options.old options.new result
+        (set_caches options.old (with_cache options.old.areas options.old.caches value.now)) }
 {
-    add_cache_line(alloc, &mut options.caches, value)
+    add_cache_line(alloc, options.areas.as_slice(), &mut options.caches, value)
+}
+
+fn add_area(options: &mut Options, value: &[u8]) -> Result<(), Refusal>
+    requires { ArePartsOfSite options.old.caches options.old.areas }
+    ensures { Makes options.old options.new result
+        (set_areas options.old (with_area options.old.caches options.old.areas value.now)) }
+{
+    add_area_line(options.caches.as_slice(), &mut options.areas, value)
 }
 
 // Options that are taken with any value, and have no effect.
@@ -175,6 +187,9 @@ fn option_kind(name: &[u8]) -> Option<OptionKind>
     if is(name, b"cache2") {
         return Some(OptionKind::Cache);
     }
+    if is(name, b"sharedarea") {
+        return Some(OptionKind::Area);
+    }
     if is_rule_option(name) {
         return Some(OptionKind::Rule);
     }
@@ -191,7 +206,7 @@ fn set_option(
     kind: OptionKind,
     value: &[u8],
 ) -> Result<(), Refusal>
-    requires { AreCaches options.old.caches }
+    requires { ArePartsOfSite options.old.caches options.old.areas }
     ensures { Makes options.old options.new result (set_option options.old kind value.now) }
 {
     match kind {
@@ -203,6 +218,7 @@ fn set_option(
         OptionKind::SpoolFreq => set_spool_freq(options, value),
         OptionKind::Socket => set_socket(alloc, options, value),
         OptionKind::Cache => add_cache(alloc, options, value),
+        OptionKind::Area => add_area(options, value),
         OptionKind::Rule | OptionKind::NoEffect => Ok(()),
     }
 }
@@ -214,7 +230,7 @@ pub fn take_option(
     name: &[u8],
     value: &[u8],
 ) -> Result<(), Refusal>
-    requires { AreCaches options.old.caches }
+    requires { ArePartsOfSite options.old.caches options.old.areas }
     ensures { Makes options.old options.new result (with_option options.old name.now value.now) }
 {
     match option_kind(name) {

@@ -1,11 +1,12 @@
 // A text, line by line.
-ghost use Rattle.std.specs.Prelude.{◌≡◌, ◌≤◌, ◌++◌, [], length, IfOk, OnOk};
+ghost use Rattle.std.specs.Prelude.{◌≡◌, ◌≤◌, ◌++◌, ◌∷◌, [], length, IfOk, OnOk};
 ghost use Rattle.std.specs.Str.Lines.{lines};
 ghost use Rattle.uw_conf.specs.Lines.{option};
 ghost use Rattle.uw_conf.specs.Reading.{blank_conf, blank_reading, read_line, with_conf, with_line, with_option};
 ghost use Rattle.uw_conf.specs.Routes.{rule_in, line_of_rule, rules_inside};
 ghost use Rattle.uw_conf.specs.ReadingSteps.{Makes, PutsRules, StepsOver, WalksOver, line_seen, progress_seen};
-ghost use Rattle.uw_conf.specs.Sound.{AreCaches};
+ghost use Rattle.uw_conf.specs.Sound.{ArePartsOfSite};
+ghost use Rattle.uw_rules.specs.declared.grammar.Table.TheVariants as tables;
 ghost use Rattle.uw_rules.specs.Tables.{AreRuleLines};
 
 use crate::conf::Options;
@@ -15,17 +16,18 @@ use crate::refusal::Refusal;
 use crate::{ConfFault, ConfKind};
 use std::alloc::Global;
 use uw_base::texts::{is, trim_blanks};
-use uw_base::{Bytes, Memory};
+use uw_base::{Bytes, Memory, NumberList};
 use uw_model::CacheConfList;
-use uw_rules::{RuleLine, RuleLineList, is_rule_option};
+use uw_rules::{RuleLine, RuleLineList, Table, table_of_option};
 
 /// Where a reading stands: before any section, in the section `uwsgi` or in another; and what it has read, with the
-/// lines of rules.
+/// lines of the rules of requests and of tasks.
 #[derive(Drop)]
 pub struct Progress {
     pub inside: Option<bool>,
     pub options: Options,
-    pub rules: RuleLineList,
+    pub routes: RuleLineList,
+    pub tasks: RuleLineList,
 }
 
 /// A reading past refused lines, with the first of them that is no rule's.
@@ -48,10 +50,11 @@ fn blank_options(alloc: Global) -> Options
         spool_freq: 30,
         socket: Bytes::new(alloc),
         caches: CacheConfList::new(alloc),
+        areas: NumberList::new(alloc),
     }
 }
 
-// Puts the line behind the others where its option is a rule's.
+// Puts the line behind the others.
 fn put_rule(
     alloc: Global,
     rules: &mut RuleLineList,
@@ -59,11 +62,8 @@ fn put_rule(
     name: &[u8],
     value: &[u8],
 ) -> Result<(), Memory>
-    ensures { OnOk result (rules.new ≡ rules.old ++ line_of_rule number (option name.now value.now)) }
+    ensures { OnOk result (rules.new ≡ rules.old ++ record { line = number; form = name.now; text = value.now } ∷ []) }
 {
-    if !is_rule_option(name) {
-        return Ok(());
-    }
     let form = Bytes::from_slice(alloc, name)?;
     let text = Bytes::from_slice(alloc, value)?;
     rules.push(RuleLine {
@@ -76,12 +76,33 @@ fn put_rule(
 impl Progress {
     fn new(alloc: Global) -> Progress
         ensures reading { progress_seen result ≡ blank_reading }
-        ensures rules { result.rules ≡ [] }
+        ensures routes { result.routes ≡ [] }
+        ensures tasks { result.tasks ≡ [] }
     {
         Progress {
             inside: None,
             options: blank_options(alloc),
-            rules: RuleLineList::new(alloc),
+            routes: RuleLineList::new(alloc),
+            tasks: RuleLineList::new(alloc),
+        }
+    }
+
+    // Puts the line into the table of its option, where that is a rule's.
+    fn put_in_table(
+        &mut self,
+        alloc: Global,
+        number: u32,
+        name: &[u8],
+        value: &[u8],
+    ) -> Result<(), Memory>
+        ensures reading { OnOk result (progress_seen self.new ≡ progress_seen self.old) }
+        ensures routes { OnOk result (self.new.routes ≡ self.old.routes ++ line_of_rule tables.Requests number (option name.now value.now)) }
+        ensures tasks { OnOk result (self.new.tasks ≡ self.old.tasks ++ line_of_rule tables.Tasks number (option name.now value.now)) }
+    {
+        match table_of_option(name) {
+            Some(Table::Requests) => put_rule(alloc, &mut self.routes, number, name, value),
+            Some(Table::Tasks) => put_rule(alloc, &mut self.tasks, number, name, value),
+            None => Ok(()),
         }
     }
 
@@ -93,22 +114,25 @@ impl Progress {
         name: &[u8],
         value: &[u8],
     ) -> Result<(), Refusal>
-        requires { AreCaches self.old.options.caches }
+        requires { ArePartsOfSite self.old.options.caches self.old.options.areas }
         ensures reading { Makes (progress_seen self.old) (progress_seen self.new) result
             (with_conf (progress_seen self.old) (with_option self.old.options name.now value.now)) }
-        ensures rules { PutsRules self.old self.new result (line_of_rule number (option name.now value.now)) }
+        ensures routes { PutsRules self.old.routes self.new.routes result (line_of_rule tables.Requests number (option name.now value.now)) }
+        ensures tasks { PutsRules self.old.tasks self.new.tasks result (line_of_rule tables.Tasks number (option name.now value.now)) }
     {
-        put_rule(alloc, &mut self.rules, number, name, value)?;
+        self.put_in_table(alloc, number, name, value)?;
         take_option(alloc, &mut self.options, name, value)
     }
 
     // A line that was told what it is.
     fn take_line(&mut self, alloc: Global, number: u32, line: LineKind<'_>) -> Result<(), Refusal>
-        requires { AreCaches self.old.options.caches }
+        requires { ArePartsOfSite self.old.options.caches self.old.options.areas }
         ensures reading { Makes (progress_seen self.old) (progress_seen self.new) result
             (with_line (progress_seen self.old) (line_seen line.entry)) }
-        ensures rules { PutsRules self.old self.new result
-            (rules_inside self.old.inside (line_of_rule number (line_seen line.entry))) }
+        ensures routes { PutsRules self.old.routes self.new.routes result
+            (rules_inside self.old.inside (line_of_rule tables.Requests number (line_seen line.entry))) }
+        ensures tasks { PutsRules self.old.tasks self.new.tasks result
+            (rules_inside self.old.inside (line_of_rule tables.Tasks number (line_seen line.entry))) }
     {
         match line {
             LineKind::Nothing => Ok(()),
@@ -130,10 +154,11 @@ impl Progress {
 
     // One line, with its number.
     fn read_line(&mut self, alloc: Global, number: u32, line: &[u8]) -> Result<(), Refusal>
-        requires { AreCaches self.old.options.caches }
+        requires { ArePartsOfSite self.old.options.caches self.old.options.areas }
         ensures reading { Makes (progress_seen self.old) (progress_seen self.new) result
             (read_line (progress_seen self.old) line.now) }
-        ensures rules { PutsRules self.old self.new result (rule_in self.old.inside number line.now) }
+        ensures routes { PutsRules self.old.routes self.new.routes result (rule_in tables.Requests self.old.inside number line.now) }
+        ensures tasks { PutsRules self.old.tasks self.new.tasks result (rule_in tables.Tasks self.old.inside number line.now) }
     {
         if !is_utf8(line) {
             return Err(Refusal::Refused(ConfKind::BadLine));
@@ -145,7 +170,7 @@ impl Progress {
 impl Walk {
     // Goes over one more line: what it says counts, or it is refused and says nothing.
     fn step(&mut self, alloc: Global, number: u32, line: &[u8]) -> Result<(), Memory>
-        requires { AreCaches self.old.progress.options.caches }
+        requires { ArePartsOfSite self.old.progress.options.caches self.old.progress.options.areas }
         ensures steps { OnOk result (StepsOver number line.now self.old self.new) }
     {
         match self.progress.read_line(alloc, number, line) {
@@ -163,8 +188,9 @@ impl Walk {
 pub fn walk_over(alloc: Global, text: &[u8]) -> Result<Walk, Memory>
     requires { length text.now ≤ 1048576 }
     ensures over { IfOk result (WalksOver (lines text.now)) }
-    ensures sound { IfOk result (λ walk. AreCaches walk.progress.options.caches) }
-    ensures rules { IfOk result (λ walk. AreRuleLines walk.progress.rules) }
+    ensures sound { IfOk result (λ walk. ArePartsOfSite walk.progress.options.caches walk.progress.options.areas) }
+    ensures routes { IfOk result (λ walk. AreRuleLines walk.progress.routes) }
+    ensures tasks { IfOk result (λ walk. AreRuleLines walk.progress.tasks) }
 {
     let mut walk = Walk {
         progress: Progress::new(alloc),

@@ -1,5 +1,5 @@
 // Configurations by worked examples.
-use crate::{Conf, ConfError, ConfFault, ConfKind, read_conf, region_words};
+use crate::{Conf, ConfError, ConfFault, ConfKind, area_words, read_conf, region_words};
 use std::alloc::Global;
 use std::process::Abort;
 use std::test::Fail;
@@ -137,6 +137,143 @@ fn each_refusal_of_a_cache_names_its_line(rt: HostRuntime) -> Result<(), Fail> {
     for (text, want) in rows {
         assert_eq!(rt; fault(&rt, rt.alloc(), text)?, want, "{text:?}");
     }
+    Ok(())
+}
+
+#[test]
+fn each_refusal_of_an_area_names_its_line(rt: HostRuntime) -> Result<(), Fail> {
+    let too_large = ConfKind::TooLarge {
+        bytes: 1_073_758_528,
+        limit: 1_073_741_824,
+    };
+    let rows: [(&[u8], Option<ConfFault>); 16] = [
+        (b"[uwsgi]\nsharedarea = 4096\nsharedarea=1", None),
+        (b"[uwsgi]\nsharedarea = pages=4096\n", None),
+        (
+            b"[uwsgi]\nsharedarea = size=1\nsharedarea = size=16777216\n",
+            None,
+        ),
+        (b"[other]\nsharedarea = 0\n", None),
+        (b"[uwsgi]\nsharedarea =\n", at(2, ConfKind::BadValue)),
+        (b"[uwsgi]\nsharedarea = 0\n", at(2, ConfKind::BadValue)),
+        (b"[uwsgi]\nsharedarea = 4097\n", at(2, ConfKind::BadValue)),
+        (
+            b"[uwsgi]\nsharedarea = pages=0\n",
+            at(2, ConfKind::BadValue),
+        ),
+        (b"[uwsgi]\nsharedarea = size=0\n", at(2, ConfKind::BadValue)),
+        (
+            b"[uwsgi]\nsharedarea = size=16777217\n",
+            at(2, ConfKind::BadValue),
+        ),
+        (
+            b"[uwsgi]\nsharedarea = size = 16\n",
+            at(2, ConfKind::BadValue),
+        ),
+        (
+            b"[uwsgi]\nsharedarea = bytes=3\n",
+            at(2, ConfKind::BadValue),
+        ),
+        (b"[uwsgi]\nsharedarea = 1,2\n", at(2, ConfKind::BadValue)),
+        (
+            b"[uwsgi]\ncache2 = name=a,items=1020,blocksize=1048576,keysize=8,hashsize=441345\nsharedarea = 1\n",
+            at(3, too_large),
+        ),
+        (
+            b"[uwsgi]\nsharedarea = 1\ncache2 = name=a,items=1020,blocksize=1048576,keysize=8,hashsize=441345\n",
+            at(3, too_large),
+        ),
+        (
+            b"[uwsgi]\nsharedarea = 1\ncache2 = name=a,items=1020,blocksize=1048576,keysize=8,hashsize=439257\n",
+            None,
+        ),
+    ];
+    for (text, want) in rows {
+        assert_eq!(rt; fault(&rt, rt.alloc(), text)?, want, "{text:?}");
+    }
+    Ok(())
+}
+
+#[test]
+fn the_17th_area_is_a_bad_value(rt: HostRuntime) -> Result<(), Fail> {
+    let mut text = b"[uwsgi]\n".to_vec(rt.alloc())?;
+    for _ in 0..17 {
+        assert_eq!(rt; fault(&rt, rt.alloc(), text.as_slice())?, None);
+        text.extend_from_slice(b"sharedarea = 1\n")?;
+    }
+    assert_eq!(rt;
+        fault(&rt, rt.alloc(), text.as_slice())?,
+        at(18, ConfKind::BadValue)
+    );
+    Ok(())
+}
+
+#[test]
+fn the_tables_of_requests_and_of_tasks_stand_apart(rt: HostRuntime) -> Result<(), Fail> {
+    let not_ahead = ConfKind::Rule(RuleKind::LabelNotAhead);
+    let unknown = ConfKind::Rule(RuleKind::UnknownAction);
+    let no_name = ConfKind::Rule(RuleKind::UnknownName);
+    let rows: [(&[u8], Option<ConfFault>); 13] = [
+        (b"[uwsgi]\nroute-label = a\nspool-label = a\n", None),
+        (
+            b"[uwsgi]\nroute-run = goto:a\nspool-label = a\n",
+            at(2, not_ahead),
+        ),
+        (
+            b"[uwsgi]\nspool-run = goto:a\nroute-label = a\n",
+            at(2, not_ahead),
+        ),
+        (b"[uwsgi]\nspool-run = send:x\n", at(2, unknown)),
+        (b"[uwsgi]\nroute-run = spool-end:0\n", at(2, unknown)),
+        (
+            b"[uwsgi]\nspool-run = spool-end:-1\nroute-run = spool:a=b\n",
+            None,
+        ),
+        (
+            b"[uwsgi]\nroute-run = nothing\nspool-run = goto:a\n",
+            at(2, unknown),
+        ),
+        (
+            b"[uwsgi]\nspool-run = goto:a\nroute-run = nothing\n",
+            at(2, not_ahead),
+        ),
+        (
+            b"[uwsgi]\nspool-run = goto:a\nworkers = 0\nroute-run = nothing\n",
+            at(2, not_ahead),
+        ),
+        (
+            b"[uwsgi]\nworkers = 0\nspool-run = goto:a\n",
+            at(2, ConfKind::BadValue),
+        ),
+        (
+            b"[uwsgi]\nroute-run = areaupdates:area=0,var=v\n",
+            at(2, no_name),
+        ),
+        (
+            b"[uwsgi]\nroute-run = areaupdates:area=0,var=v\nsharedarea = 1\n",
+            None,
+        ),
+        (
+            b"[uwsgi]\nspool-run = areaupdates:area=1,var=v\nsharedarea = 1\nsharedarea = 0\n",
+            at(2, no_name),
+        ),
+    ];
+    for (text, want) in rows {
+        assert_eq!(rt; fault(&rt, rt.alloc(), text)?, want, "{text:?}");
+    }
+    Ok(())
+}
+
+#[test]
+fn areas_and_tasks_say_what_they_say(rt: HostRuntime) -> Result<(), Fail> {
+    let conf = conf(
+        &rt,
+        rt.alloc(),
+        b"[uwsgi]\nsharedarea = 2\nspool-label = a\nsharedarea = size=10\n",
+    )?;
+    assert_eq!(rt; conf.areas.as_slice(), [8_192, 10].as_slice());
+    assert_eq!(rt; (conf.routes.len(), conf.tasks.len()), (0, 1));
+    assert_eq!(rt; area_words(4_096), 2_088);
     Ok(())
 }
 

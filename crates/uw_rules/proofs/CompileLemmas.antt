@@ -1,19 +1,22 @@
 -- Templates that are good.
-use Rattle.std.proofs.Common.{◌≡◌, ℕ, Bool, true, false, ◌||◌, cond, List, [], ◌∷◌, refl, subst, Option, Some, None, IsSomeAnd, option_and_then, unwrap_or}
+use Rattle.std.proofs.Common.{◌≡◌, ℕ, ◌<◌, ◌^◌, Bool, true, false, ◌||◌, nat_le, cond, List, [], ◌∷◌, refl, subst, arith, Option, Some, None, IsSomeAnd, option_and_then, unwrap_or}
+use Rattle.std.proofs.lemmas.Bool.Decides.{nat_tests}
 use Rattle.std.specs.Borrow.{Bor}
 use Rattle.std.specs.List.{AllByRecursion}
 use Rattle.std.specs.Str.{bytes_eq}
 use Rattle.std.specs.Option.{is_some, option_copied, option_map_or}
 use Rattle.regex.specs.declared.bytes.regex.Regex.{Regex}
+use Rattle.uw_base.specs.Numbers.{decimal_of}
 use Rattle.uw_subst.specs.Templates.{fault_of, pieces_behind}
 use Rattle.uw_rules.specs.declared.grammar.ConditionName.{ConditionName}
 use Rattle.uw_rules.specs.declared.grammar.ConditionName.TheVariants as conditions
 use Rattle.uw_rules.specs.declared.grammar.TextKind.TheVariants as texts
+use Rattle.uw_rules.specs.declared.grammar.Table.{Table}
 use Rattle.uw_rules.specs.declared.grammar.ActionName.{ActionName}
-use Rattle.uw_rules.specs.Arguments.{is_bad_argument, is_bad_text, pattern_in, second_half}
-use Rattle.uw_rules.specs.Grammar.{ArgumentShape, action_of, action_rows, condition_of, condition_rows, row_of}
+use Rattle.uw_rules.specs.Arguments.{SiteNames, is_bad_argument, is_bad_text, pattern_in, second_half}
+use Rattle.uw_rules.specs.Grammar.{ArgumentShape, action_of, action_rows, condition_of, condition_rows, is_of_table, row_in_table, row_of}
 use Rattle.uw_rules.specs.Compiled.{or_empty}
-use Rattle.uw_rules.specs.CompileSteps.{CanCompileCondition, HasGoodTemplates, IsGoodTemplate, IsPatternIn, action_shape, condition_shape}
+use Rattle.uw_rules.specs.CompileSteps.{CanCompileAction, CanCompileCondition, HasGoodTemplates, IsGoodTemplate, IsPatternIn, action_shape, condition_shape}
 
 no_fault : (fault : Option ℕ) → is_some fault ≡ false → fault ≡ None
 no_fault None h = refl
@@ -50,11 +53,20 @@ unfolding condition_of
 condition_has_shape name known found =
     row_has (λ (n : ConditionName) (s : ArgumentShape). s ≡ condition_shape n) condition_rows name known (refl, (refl, (refl, (refl, (refl, (refl, (refl, tt))))))) found
 
+kept : (b : Bool) (row known : ActionName × ArgumentShape) → cond b (Some row) None ≡ Some known → Some row ≡ Some known
+kept true row known h = h
+kept false row known h = absurd (cc)
+
+-- the row of an action of a table is one of all rows
+in_rows : (table : Table) (row : Option (ActionName × ArgumentShape)) (known : ActionName × ArgumentShape) → row_in_table table row ≡ Some known → row ≡ Some known
+in_rows table None known h = h
+in_rows table (Some row) known h = kept (is_of_table table row.0) row known h
+
 -- the shape of an action is that of its name
-pub action_has_shape : (name : List ℕ) (known : ActionName × ArgumentShape) → action_of name ≡ Some known → known.1 ≡ action_shape known.0
+pub action_has_shape : (table : Table) (name : List ℕ) (known : ActionName × ArgumentShape) → action_of table name ≡ Some known → known.1 ≡ action_shape known.0
 unfolding action_of
-action_has_shape name known found =
-    row_has (λ (n : ActionName) (s : ArgumentShape). s ≡ action_shape n) action_rows name known (refl, (refl, (refl, (refl, (refl, (refl, (refl, (refl, (refl, (refl, (refl, (refl, (refl, (refl, (refl, (refl, (refl, (refl, (refl, (refl, tt)))))))))))))))))))) found
+action_has_shape table name known found =
+    row_has (λ (n : ActionName) (s : ArgumentShape). s ≡ action_shape n) action_rows name known (refl, (refl, (refl, (refl, (refl, (refl, (refl, (refl, (refl, (refl, (refl, (refl, (refl, (refl, (refl, (refl, (refl, (refl, (refl, (refl, (refl, (refl, (refl, (refl, (refl, (refl, (refl, (refl, (refl, tt))))))))))))))))))))))))))))) (in_rows table (row_of action_rows name) known found)
 
 -- ---- what a rule that is not refused is compiled from
 
@@ -80,13 +92,14 @@ condition_pattern name argument known pattern found h =
     found h in
     subst (λ (s : ArgumentShape). IsPatternIn (pattern_in s argument) pattern) (condition_has_shape name known found) here
 
--- the templates of an action that can be compiled are those of the shape of its name
-pub action_taken : (name : List ℕ) (argument : Option (List ℕ)) (known : ActionName × ArgumentShape) → action_of name ≡ Some known
-    → IsSomeAnd (action_of name) (λ (row : ActionName × ArgumentShape). HasGoodTemplates row.1 argument) → HasGoodTemplates (action_shape known.0) argument
-action_taken name argument known found taken =
-    let here : HasGoodTemplates known.1 argument =
-    subst (λ (row : Option (ActionName × ArgumentShape)). IsSomeAnd row (λ (k : ActionName × ArgumentShape). HasGoodTemplates k.1 argument)) found taken in
-    subst (λ (s : ArgumentShape). HasGoodTemplates s argument) (action_has_shape name known found) here
+-- an action that can be compiled has the shape of its name
+pub action_taken : (names : SiteNames) (table : Table) (name : List ℕ) (argument : Option (List ℕ)) (known : ActionName × ArgumentShape)
+    → action_of table name ≡ Some known → IsSomeAnd (action_of table name) (λ (row : ActionName × ArgumentShape). CanCompileAction names row.1 argument)
+    → CanCompileAction names (action_shape known.0) argument
+action_taken names table name argument known found taken =
+    let here : CanCompileAction names known.1 argument =
+    subst (λ (row : Option (ActionName × ArgumentShape)). IsSomeAnd row (λ (k : ActionName × ArgumentShape). CanCompileAction names k.1 argument)) found taken in
+    subst (λ (s : ArgumentShape). CanCompileAction names s argument) (action_has_shape table name known found) here
 
 both_false : (a b : Bool) → (a || b) ≡ false → (a ≡ false) × (b ≡ false)
 both_false true b h = absurd (cc)
@@ -102,3 +115,14 @@ unfolding is_bad_argument
 pattern_stands argument h =
     let places = (both_false _ _ h).1 in
     stands (is_bad_text texts.Pattern) (second_half 59 argument) (both_false _ _ (both_false _ _ places).1).0
+
+-- ---- areas
+
+number_small : (areas : ℕ) (number : Option ℕ) → areas < 2 ^ 32 → option_map_or (λ (n : ℕ). nat_le areas n) number false ≡ false → unwrap_or number 0 < 2 ^ 32
+number_small areas None small h = omega arith
+number_small areas (Some number) small h = grind (arith, nat_tests)
+
+-- the number of an area that there is, behind which other places stand
+pub area_small : (areas : ℕ) (text : Option (List ℕ)) (rest : Bool) → areas < 2 ^ 32
+    → (option_map_or (λ (n : ℕ). nat_le areas n) (option_and_then decimal_of text) false || rest) ≡ false → unwrap_or (option_and_then decimal_of text) 0 < 2 ^ 32
+area_small areas text rest small h = number_small areas (option_and_then decimal_of text) small (both_false _ _ h).0

@@ -10,9 +10,10 @@ use Rattle.std.proofs.lemmas.Slice.Eq.{bytes_eq-Decides}
 use Rattle.uw_rules.specs.declared.kinds.RuleKind.{RuleKind}
 use Rattle.uw_rules.specs.declared.kinds.RuleKind.TheVariants as kinds
 use Rattle.uw_rules.specs.declared.lines.RuleLine.{RuleLine}
+use Rattle.uw_rules.specs.declared.grammar.Table.{Table}
 use Rattle.uw_rules.specs.declared.grammar.ActionName.{ActionName}
 use Rattle.uw_rules.specs.declared.grammar.ActionName.TheVariants as actions
-use Rattle.uw_rules.specs.Arguments.{is_ahead, is_label, is_missed_label, text_places}
+use Rattle.uw_rules.specs.Arguments.{SiteNames, is_ahead, is_label, is_missed_label, text_places}
 use Rattle.uw_rules.specs.Grammar.{ArgumentShape, action_of}
 use Rattle.uw_rules.specs.WrittenRules.{Phrase, WrittenTest, WrittenRule, unparted, label, rule, rule_of_line}
 use Rattle.uw_rules.specs.Rules.{any_text_of_test, early_refusal, first_of_two, has_bad_pattern, has_bad_template, has_unknown_action, has_unknown_condition, has_unknown_name, is_bad_rule, is_label_of, is_label_twice, late_refusal, misses_label, pattern_refusal, place_of_label, refusal_of_rule, rule_refusal_at, table_of}
@@ -76,7 +77,7 @@ front_rule : (lines : List RuleLine) (k : ℕ) → k < 4096 → slice_get (table
 front_rule lines k h =
     slice_get-map rule_of_line (take 4096 lines) k ∙ ap (option_map rule_of_line) (get_take 4096 k lines h) ∙ sym (slice_get-map rule_of_line lines k)
 
-at_rule : (names : List (List ℕ)) (lines : List RuleLine) (here : ℕ) (refused : Bool) (said : WrittenRule) → slice_get (table_of lines) here ≡ Some said
+at_rule : (names : SiteNames) (lines : List RuleLine) (here : ℕ) (refused : Bool) (said : WrittenRule) → slice_get (table_of lines) here ≡ Some said
     → rule_refusal_at names lines here refused ≡ refusal_of_rule names (place_of_label lines) here refused said
 unfolding rule_refusal_at
 at_rule names lines here refused said h =
@@ -85,11 +86,11 @@ at_rule names lines here refused said h =
 label_is : (text : List ℕ) (said : WrittenRule) → is_label_of text said ≡ true → said ≡ label text
 label_is text unparted h = absurd (cc)
 label_is text (label other) h = ap label ((bytes_eq-Decides other text).0 h)
-label_is text (rule test action) h = absurd (cc)
+label_is text (rule table test action) h = absurd (cc)
 
 -- ---- labels that are not refused
 
-label_taken : (names : List (List ℕ)) (labels : List ℕ → Option ℕ) (here : ℕ) (text : List ℕ) → nat_le 4096 here ≡ false → is_label text ≡ true
+label_taken : (names : SiteNames) (labels : List ℕ → Option ℕ) (here : ℕ) (text : List ℕ) → nat_le 4096 here ≡ false → is_label text ≡ true
     → option_map_or (λ (first : ℕ). nat_lt first here) (labels text) false ≡ false → refusal_of_rule names labels here false (label text) ≡ None
 unfolding is_bad_rule has_unknown_condition has_bad_pattern has_unknown_action has_bad_template is_label_twice misses_label has_unknown_name
 label_taken names labels here text few good first =
@@ -110,7 +111,7 @@ not_behind there = grind (arith, nat_tests)
 is_few : (there : ℕ) → there < 4096 → nat_le 4096 there ≡ false
 is_few there h = grind (arith, nat_tests)
 
-pub label_ahead : (names : List (List ℕ)) (lines : List RuleLine) (here : ℕ) (text : List ℕ) → is_label text ≡ true → is_ahead here (place_of_label lines text) ≡ true
+pub label_ahead : (names : SiteNames) (lines : List RuleLine) (here : ℕ) (text : List ℕ) → is_label text ≡ true → is_ahead here (place_of_label lines text) ≡ true
     → (there : ℕ) × (here < there) × (slice_get (table_of lines) there ≡ Some (label text)) × (rule_refusal_at names lines there false ≡ None)
 unfolding place_of_label
 label_ahead names lines here text good h =
@@ -133,7 +134,7 @@ first_none : (a b : Option RuleKind) → first_of_two a b ≡ None → (a ≡ No
 first_none None b h = (refl, h)
 first_none (Some kind) b h = absurd (cc)
 
-pub not_refused : (names : List (List ℕ)) (labels : List ℕ → Option ℕ) (here : ℕ) (said : WrittenRule) → refusal_of_rule names labels here false said ≡ None
+pub not_refused : (names : SiteNames) (labels : List ℕ → Option ℕ) (here : ℕ) (said : WrittenRule) → refusal_of_rule names labels here false said ≡ None
     → (early_refusal here said ≡ None) × (late_refusal names labels here said ≡ None)
 unfolding refusal_of_rule
 not_refused names labels here said h =
@@ -156,7 +157,7 @@ lt_true here there h = grind (arith, nat_tests)
 le_false : (there : ℕ) → nat_le 4096 there ≡ false → there < 4096
 le_false there h = grind (arith, nat_tests)
 
-pub label_later : (names : List (List ℕ)) (lines : List RuleLine) (here there : ℕ) (text : List ℕ) → here < there → slice_get (table_of lines) there ≡ Some (label text)
+pub label_later : (names : SiteNames) (lines : List RuleLine) (here there : ℕ) (text : List ℕ) → here < there → slice_get (table_of lines) there ≡ Some (label text)
     → rule_refusal_at names lines there false ≡ None → is_ahead here (place_of_label lines text) ≡ true
 unfolding place_of_label
 label_later names lines here there text below at free =
@@ -179,13 +180,13 @@ not_false : (b : Bool) → not b ≡ false → b ≡ true
 not_false true h = refl
 not_false false h = absurd (cc)
 
-pub goto_ahead : (names : List (List ℕ)) (lines : List RuleLine) (here : ℕ) (test : WrittenTest) (action : Phrase) (shape : ArgumentShape) (text : List ℕ)
-    → slice_get (table_of lines) here ≡ Some (rule test action) → action_of action.name ≡ Some (actions.Goto, shape) → action.argument ≡ Some text
+pub goto_ahead : (names : SiteNames) (lines : List RuleLine) (here : ℕ) (table : Table) (test : WrittenTest) (action : Phrase) (shape : ArgumentShape) (text : List ℕ)
+    → slice_get (table_of lines) here ≡ Some (rule table test action) → action_of table action.name ≡ Some (actions.Goto, shape) → action.argument ≡ Some text
     → rule_refusal_at names lines here false ≡ None → is_ahead here (place_of_label lines text) ≡ true
 unfolding misses_label
-goto_ahead names lines here test action shape text at known says free =
+goto_ahead names lines here table test action shape text at known says free =
     let labels = place_of_label lines in
-    let said = rule test action in
+    let said = rule table test action in
     let none = not_refused names labels here said (sym (at_rule names lines here false said at) ∙ free) in
     let done = passed (has_unknown_action said) _ _ none.1 in
     let good = passed (has_bad_template said) _ _ done.1 in
@@ -197,7 +198,7 @@ goto_ahead names lines here test action shape text at known says free =
     known missed_action in
     let of_shape : list_any (is_missed_label labels here) (text_places (action_shape actions.Goto) action.argument) ≡ false =
     subst (λ (s : ArgumentShape). list_any (is_missed_label labels here) (text_places s action.argument) ≡ false)
-    (action_has_shape action.name (actions.Goto, shape) known) of_row in
+    (action_has_shape table action.name (actions.Goto, shape) known) of_row in
     let of_text : list_any (is_missed_label labels here) (text_places (action_shape actions.Goto) (Some text)) ≡ false =
     subst (λ (argument : Option (List ℕ)). list_any (is_missed_label labels here) (text_places (action_shape actions.Goto) argument) ≡ false) says of_shape in
     not_false (is_ahead here (labels text)) (both_false _ _ of_text).0

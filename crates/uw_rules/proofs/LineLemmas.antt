@@ -9,6 +9,7 @@ use Rattle.std.specs.Str.{IsCharBoundary, IsUtf8}
 use Rattle.uw_base.specs.Texts.{is_blank, without_blanks}
 use Rattle.uw_rules.specs.declared.grammar.ConditionName.{ConditionName}
 use Rattle.uw_rules.specs.declared.grammar.ConditionName.TheVariants as conditions
+use Rattle.uw_rules.specs.declared.grammar.Table.{Table}
 use Rattle.uw_rules.specs.declared.grammar.LineKind.{LineKind}
 use Rattle.uw_rules.specs.declared.grammar.LineKind.TheVariants as kinds
 use Rattle.uw_rules.specs.declared.lines.RuleLine.{RuleLine}
@@ -39,24 +40,24 @@ phrase_short text h =
     if_short (list_any (λ byte. byte == 58) text) (after_first (λ byte. byte == 58) text)
     (omega (arith, length-drop (position_or_len (λ byte. byte == 58) text + 1) text))
 
-parted_if : (b : Bool) (test : WrittenTest) (action : Phrase) → IsShortTest test → IsShortPhrase action → AreShort (cond b (rule test action) unparted)
-parted_if true test action h k = (h, k)
-parted_if false test action h k = tt
+parted_if : (b : Bool) (table : Table) (test : WrittenTest) (action : Phrase) → IsShortTest test → IsShortPhrase action → AreShort (cond b (rule table test action) unparted)
+parted_if true table test action h k = (h, k)
+parted_if false table test action h k = tt
 
-parted_short : (text : List ℕ) (test : List ℕ → WrittenTest) → length text < 2 ^ 32 → IsShortTest (test (before_first (λ byte. byte == 32) text))
-    → AreShort (parted_rule text test)
-parted_short text test h k =
+parted_short : (table : Table) (text : List ℕ) (test : List ℕ → WrittenTest) → length text < 2 ^ 32 → IsShortTest (test (before_first (λ byte. byte == 32) text))
+    → AreShort (parted_rule table text test)
+parted_short table text test h k =
     let action = after_first (λ byte. byte == 32) text in
-    parted_if (list_any (λ byte. byte == 32) text) (test (before_first (λ byte. byte == 32) text)) (phrase_of (without_blanks action)) k
+    parted_if (list_any (λ byte. byte == 32) text) table (test (before_first (λ byte. byte == 32) text)) (phrase_of (without_blanks action)) k
     (phrase_short (without_blanks action) (omega (arith, without_short action, length-drop (position_or_len (λ byte. byte == 32) text + 1) text)))
 
-as_short : (kind : Option LineKind) (text : List ℕ) → length text < 2 ^ 32 → AreShort (written_as kind text)
-as_short (Some (kinds.Pattern subject)) text h = parted_short text (λ (pattern : List ℕ). matching subject pattern) h tt
-as_short (Some kinds.Always) text h = (tt, phrase_short text h)
-as_short (Some (kinds.Condition negated)) text h =
-    parted_short text (λ (condition : List ℕ). holding negated (phrase_of condition)) h
+as_short : (kind : Option (Table × LineKind)) (text : List ℕ) → length text < 2 ^ 32 → AreShort (written_as kind text)
+as_short (Some (table, kinds.Pattern subject)) text h = parted_short table text (λ (pattern : List ℕ). matching subject pattern) h tt
+as_short (Some (table, kinds.Always)) text h = (tt, phrase_short text h)
+as_short (Some (table, kinds.Condition negated)) text h =
+    parted_short table text (λ (condition : List ℕ). holding negated (phrase_of condition)) h
     (phrase_short (before_first (λ byte. byte == 32) text) (omega (arith, length-take (position_or_len (λ byte. byte == 32) text) text)))
-as_short (Some kinds.Label) text h = tt
+as_short (Some (table, kinds.Label)) text h = tt
 as_short None text h = tt
 
 -- the arguments of a rule of a short line are short
@@ -124,22 +125,23 @@ known_utf8 : (name : List ℕ) (argument : Option (List ℕ)) (row : Option (Con
 known_utf8 name argument None is h = tt
 known_utf8 name argument (Some known) is h = rw (condition_has_shape name known is) (shape_utf8 known.0 argument h)
 
-parted_utf8 : (b : Bool) (test : WrittenTest) (action : Phrase) → IfSome (pattern_of_test test) IsUtf8 → IfSome (pattern_of_rule (cond b (rule test action) unparted)) IsUtf8
-parted_utf8 true test action h = h
-parted_utf8 false test action h = tt
+parted_utf8 : (b : Bool) (table : Table) (test : WrittenTest) (action : Phrase) → IfSome (pattern_of_test test) IsUtf8
+    → IfSome (pattern_of_rule (cond b (rule table test action) unparted)) IsUtf8
+parted_utf8 true table test action h = h
+parted_utf8 false table test action h = tt
 
-as_utf8 : (kind : Option LineKind) (text : List ℕ) → IsUtf8 text → IfSome (pattern_of_rule (written_as kind text)) IsUtf8
-as_utf8 (Some (kinds.Pattern subject)) text h =
+as_utf8 : (kind : Option (Table × LineKind)) (text : List ℕ) → IsUtf8 text → IfSome (pattern_of_rule (written_as kind text)) IsUtf8
+as_utf8 (Some (table, kinds.Pattern subject)) text h =
     let first = before_first (λ byte. byte == 32) text in
-    parted_utf8 (list_any (λ byte. byte == 32) text) (matching subject first) (phrase_of (without_blanks (after_first (λ byte. byte == 32) text)))
+    parted_utf8 (list_any (λ byte. byte == 32) text) table (matching subject first) (phrase_of (without_blanks (after_first (λ byte. byte == 32) text)))
     (before_utf8 32 text (omega arith) h)
-as_utf8 (Some kinds.Always) text h = tt
-as_utf8 (Some (kinds.Condition negated)) text h =
+as_utf8 (Some (table, kinds.Always)) text h = tt
+as_utf8 (Some (table, kinds.Condition negated)) text h =
     let first = before_first (λ byte. byte == 32) text in
-    parted_utf8 (list_any (λ byte. byte == 32) text) (holding negated (phrase_of first)) (phrase_of (without_blanks (after_first (λ byte. byte == 32) text)))
+    parted_utf8 (list_any (λ byte. byte == 32) text) table (holding negated (phrase_of first)) (phrase_of (without_blanks (after_first (λ byte. byte == 32) text)))
     (known_utf8 (phrase_of first).name (phrase_of first).argument (condition_of (phrase_of first).name) refl
     (argument_utf8 first (before_utf8 32 text (omega arith) h)))
-as_utf8 (Some kinds.Label) text h = tt
+as_utf8 (Some (table, kinds.Label)) text h = tt
 as_utf8 None text h = tt
 
 -- the pattern of a rule of a line of UTF-8 is of UTF-8

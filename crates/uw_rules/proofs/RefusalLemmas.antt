@@ -9,22 +9,22 @@ use Rattle.uw_rules.specs.declared.kinds.Refusal.{Refusal}
 use Rattle.uw_rules.specs.declared.kinds.Refusal.TheVariants as refusals
 use Rattle.uw_rules.specs.declared.grammar.ConditionName.{ConditionName}
 use Rattle.uw_rules.specs.Grammar.{ArgumentShape, action_of, condition_of}
-use Rattle.uw_rules.specs.Arguments.{is_bad_argument, is_bad_template, text_places}
+use Rattle.uw_rules.specs.Arguments.{SiteNames, is_bad_argument, is_bad_template, is_unknown_name, text_places}
 use Rattle.uw_rules.specs.Patterns.{is_pattern}
 use Rattle.uw_rules.specs.WrittenRules.{WrittenTest, WrittenRule, always, matching, holding, unparted, label, rule}
-use Rattle.uw_rules.specs.Rules.{early_refusal, first_of_two, has_bad_pattern, has_bad_template, has_pattern, has_unknown_action, has_unknown_condition, is_bad_rule, is_bad_test, is_unknown_test, any_text_of_test, late_refusal, pattern_of_rule, pattern_refusal, refusal_of_rule}
-use Rattle.uw_rules.specs.CompileSteps.{CanCompile, CanCompileCondition, CanCompileTest, HasGoodTemplates, IsPatternIn}
+use Rattle.uw_rules.specs.Rules.{early_refusal, first_of_two, has_bad_pattern, has_bad_template, has_pattern, has_unknown_action, has_unknown_condition, has_unknown_name, is_bad_rule, is_bad_test, is_label_twice, misses_label, is_unknown_test, any_text_of_test, late_refusal, pattern_of_rule, pattern_refusal, refusal_of_rule}
+use Rattle.uw_rules.specs.CompileSteps.{CanCompile, CanCompileAction, CanCompileCondition, CanCompileTest, IsPatternIn}
 use Rattle.uw_rules.specs.TableSteps.{GivesPatternIfAny, GivesRule, IsPatternRefusal}
 
 -- a rule that is refused before its pattern is looked at
-pub early : (names : List (List ℕ)) (labels : List ℕ → Option ℕ) (here : ℕ) (refused : Bool) (written : WrittenRule) (kind : RuleKind)
+pub early : (names : SiteNames) (labels : List ℕ → Option ℕ) (here : ℕ) (refused : Bool) (written : WrittenRule) (kind : RuleKind)
     → early_refusal here written ≡ Some kind → refusal_of_rule names labels here refused written ≡ Some kind
 unfolding refusal_of_rule
 early names labels here refused written kind h =
     ap (λ (first : Option RuleKind). first_of_two first (first_of_two (pattern_refusal refused written) (late_refusal names labels here written))) h
 
 -- a rule that is refused for its pattern
-pub by_pattern : (names : List (List ℕ)) (labels : List ℕ → Option ℕ) (here : ℕ) (refused : Bool) (written : WrittenRule) (kind : RuleKind)
+pub by_pattern : (names : SiteNames) (labels : List ℕ → Option ℕ) (here : ℕ) (refused : Bool) (written : WrittenRule) (kind : RuleKind)
     → early_refusal here written ≡ None → pattern_refusal refused written ≡ Some kind → refusal_of_rule names labels here refused written ≡ Some kind
 unfolding refusal_of_rule
 by_pattern names labels here refused written kind none h =
@@ -32,7 +32,7 @@ by_pattern names labels here refused written kind none h =
     ∙ ap (λ (first : Option RuleKind). first_of_two first (late_refusal names labels here written)) h
 
 -- a rule that is refused for neither is refused for what comes behind its pattern, if it is
-pub late : (names : List (List ℕ)) (labels : List ℕ → Option ℕ) (here : ℕ) (refused : Bool) (written : WrittenRule)
+pub late : (names : SiteNames) (labels : List ℕ → Option ℕ) (here : ℕ) (refused : Bool) (written : WrittenRule)
     → early_refusal here written ≡ None → pattern_refusal refused written ≡ None → refusal_of_rule names labels here refused written ≡ late_refusal names labels here written
 unfolding refusal_of_rule
 late names labels here refused written none no_pattern =
@@ -67,7 +67,7 @@ module _ (written : WrittenRule) where
   pub no_pattern_refusal : (pattern : Option Regex) → IsPatternIn (pattern_of_rule written) pattern → pattern_refusal false written ≡ None
   no_pattern_refusal pattern h = bad_step false (seen_bad (pattern_of_rule written) refl ∙ good_pattern (pattern_of_rule written) pattern h)
 
-  module _ (names : List (List ℕ)) (labels : List ℕ → Option ℕ) (here before after : ℕ) (none : early_refusal here written ≡ None) where
+  module _ (names : SiteNames) (labels : List ℕ → Option ℕ) (here before after : ℕ) (none : early_refusal here written ≡ None) where
     one_refusal : (text : List ℕ) (kind : RuleKind) → pattern_of_rule written ≡ Some text → IsPatternRefusal before after text kind
         → GivesRule names labels here before after written (Err (refusals.Refused kind))
     one_refusal text kind h (inl bad) =
@@ -99,11 +99,12 @@ pub passed : (b : Bool) (kind : RuleKind) (rest : Option RuleKind) → cond b (S
 passed true kind rest h = absurd (cc)
 passed false kind rest h = (refl, h)
 
-known_good : {N : Type 0} (row : Option (N × ArgumentShape)) (argument : Option (List ℕ)) → is_none row ≡ false
+known_good : {N : Type 0} (names : SiteNames) (row : Option (N × ArgumentShape)) (argument : Option (List ℕ)) → is_none row ≡ false
     → option_map_or (λ (k : N × ArgumentShape). list_any is_bad_template (text_places k.1 argument)) row false ≡ false
-    → IsSomeAnd row (λ (k : N × ArgumentShape). HasGoodTemplates k.1 argument)
-known_good None argument there templates = absurd (cc)
-known_good (Some k) argument there templates = templates
+    → option_map_or (λ (k : N × ArgumentShape). list_any (is_unknown_name names) (text_places k.1 argument)) row false ≡ false
+    → IsSomeAnd row (λ (k : N × ArgumentShape). CanCompileAction names k.1 argument)
+known_good names None argument there templates known = absurd (cc)
+known_good names (Some k) argument there templates known = record { templates_good = templates; names_known = known }
 
 known_condition : (row : Option (ConditionName × ArgumentShape)) (argument : Option (List ℕ)) → is_none row ≡ false
     → option_map_or (λ (k : ConditionName × ArgumentShape). is_bad_argument k.1 argument) row false ≡ false
@@ -117,22 +118,28 @@ test_can always good there templates = tt
 test_can (matching subject pattern) good there templates = tt
 test_can (holding negated condition) good there templates = known_condition (condition_of condition.name) condition.argument there good templates
 
-rule_can : (written : WrittenRule) → is_bad_rule written ≡ false → has_unknown_condition written ≡ false → has_unknown_action written ≡ false
-    → has_bad_template written ≡ false → CanCompile written
-unfolding is_bad_rule has_unknown_condition has_unknown_action has_bad_template
-rule_can unparted good there done templates = absurd (cc)
-rule_can (label text) good there done templates = tt
-rule_can (rule test action) good there done templates =
+rule_can : (names : SiteNames) (written : WrittenRule) → is_bad_rule written ≡ false → has_unknown_condition written ≡ false
+    → has_unknown_action written ≡ false → has_bad_template written ≡ false → has_unknown_name names written ≡ false → CanCompile names written
+unfolding is_bad_rule has_unknown_condition has_unknown_action has_bad_template has_unknown_name
+rule_can names unparted good there done templates known = absurd (cc)
+rule_can names (label text) good there done templates known = tt
+rule_can names (rule table test action) good there done templates known =
     let texts = both_false (any_text_of_test is_bad_template test) _ templates in
-    (test_can test (both_false (is_bad_test test) _ good).0 there texts.0, known_good (action_of action.name) action.argument done texts.1)
+    let parts = both_false (any_text_of_test (is_unknown_name names) test) _ known in (
+      test_can test (both_false (is_bad_test test) _ good).0 there texts.0,
+      known_good names (action_of table action.name) action.argument done texts.1 parts.1,
+    )
 
 -- a rule that is not refused can be compiled
-pub can_compile : (names : List (List ℕ)) (labels : List ℕ → Option ℕ) (here : ℕ) (written : WrittenRule) → early_refusal here written ≡ None
-    → late_refusal names labels here written ≡ None → CanCompile written
+pub can_compile : (names : SiteNames) (labels : List ℕ → Option ℕ) (here : ℕ) (written : WrittenRule) → early_refusal here written ≡ None
+    → late_refusal names labels here written ≡ None → CanCompile names written
 can_compile names labels here written none last =
     let few = passed (nat_le 4096 here) _ _ none in
     let good = passed (is_bad_rule written) _ _ few.1 in
     let there = passed (has_unknown_condition written) _ _ good.1 in
     let done = passed (has_unknown_action written) _ _ last in
     let templates = passed (has_bad_template written) _ _ done.1 in
-    rule_can written good.0 there.0 done.0 templates.0
+    let once = passed (is_label_twice labels here written) _ _ templates.1 in
+    let ahead = passed (misses_label labels here written) _ _ once.1 in
+    let known = passed (has_unknown_name names written) _ _ ahead.1 in
+    rule_can names written good.0 there.0 done.0 templates.0 known.0

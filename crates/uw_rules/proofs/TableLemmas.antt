@@ -12,6 +12,7 @@ use Rattle.uw_rules.specs.declared.lines.RuleLine.{RuleLine}
 use Rattle.uw_rules.specs.declared.compiled.Rule.{Rule}
 use Rattle.uw_rules.specs.WrittenRules.{WrittenRule, rule_of_line}
 use Rattle.uw_rules.specs.Rules.{place_of_label, rule_refusal_at, refusal_of_rule, table_of}
+use Rattle.uw_rules.specs.Arguments.{SiteNames}
 use Rattle.uw_rules.specs.Compiled.{IsRuleOf}
 use Rattle.uw_rules.specs.Tables.{AreRulesOf, NoneRefusedBefore, ReadsRules}
 use Rattle.uw_rules.specs.TableSteps.{GivesRule, error_of}
@@ -26,21 +27,21 @@ rules_push names labels (r ∷ rs) [] one last h k = absurd h
 rules_push names labels (r ∷ rs) (w ∷ ws) one last h k = (h.0, rules_push names labels rs ws one last h.1 k)
 
 -- the refusal of the rule of a line
-pub refusal_here : (names : List (List ℕ)) (lines : List RuleLine) (here : ℕ) (line : RuleLine) (refused : Bool) → slice_get lines here ≡ Some line
+pub refusal_here : (names : SiteNames) (lines : List RuleLine) (here : ℕ) (line : RuleLine) (refused : Bool) → slice_get lines here ≡ Some line
     → rule_refusal_at names lines here refused ≡ refusal_of_rule names (place_of_label lines) here refused (rule_of_line line)
 unfolding rule_refusal_at
 refusal_here names lines here line refused is =
     ap (λ (l : Option RuleLine). option_and_then (refusal_of_rule names (place_of_label lines) here refused) (option_map rule_of_line l)) is
 
 -- what a step gives under the places of labels that the code has, it gives under those of the table
-same_labels : (names : List (List ℕ)) (found : List ℕ → Option ℕ) (lines : List RuleLine) (here before after : ℕ) (said : WrittenRule) (result : Result Rule Refusal)
+same_labels : (names : SiteNames) (found : List ℕ → Option ℕ) (lines : List RuleLine) (here before after : ℕ) (said : WrittenRule) (result : Result Rule Refusal)
     → ((text : List ℕ) → found text ≡ place_of_label lines text) → GivesRule names found here before after said result
     → GivesRule names (place_of_label lines) here before after said result
 same_labels names found lines here before after said result same h =
     subst (λ (labels : List ℕ → Option ℕ). GivesRule names labels here before after said result) (fun_ext same) h
 
 -- no line up to this one is refused
-earlier_more : (names : List (List ℕ)) (lines : List RuleLine) (here : ℕ) → NoneRefusedBefore names lines here → rule_refusal_at names lines here false ≡ None
+earlier_more : (names : SiteNames) (lines : List RuleLine) (here : ℕ) → NoneRefusedBefore names lines here → rule_refusal_at names lines here false ≡ None
     → NoneRefusedBefore names lines (here + 1)
 earlier_more names lines here h k = below_more _ here h k
 
@@ -48,12 +49,12 @@ rose_earlier : (first before after : ℕ) → first ≤ before → Rose before a
 rose_earlier first before after h rose = omega arith
 
 -- what a reading has read up to a line
-pub record IsReadUpTo (names : List (List ℕ)) (lines : List RuleLine) (here : ℕ) (rules : List Rule) : Type 0 where
+pub record IsReadUpTo (names : SiteNames) (lines : List RuleLine) (here : ℕ) (rules : List Rule) : Type 0 where
   pub earlier : NoneRefusedBefore names lines here
-  pub rules_read : AreRulesOf names (place_of_label lines) rules (table_of (take here lines))
+  pub rules_read : AreRulesOf names.caches (place_of_label lines) rules (table_of (take here lines))
 
 -- a rule that is taken
-pub taken : (names : List (List ℕ)) (found : List ℕ → Option ℕ) (lines : List RuleLine) (here before after : ℕ) (line : RuleLine) (said : WrittenRule)
+pub taken : (names : SiteNames) (found : List ℕ → Option ℕ) (lines : List RuleLine) (here before after : ℕ) (line : RuleLine) (said : WrittenRule)
     (rules new : List Rule) (one : Rule) → ((text : List ℕ) → found text ≡ place_of_label lines text) → here < length lines → line ≡ get_or lines here line
     → said ≡ rule_of_line line → GivesRule names found here before after said (Ok one) → IsReadUpTo names lines here rules → new ≡ rules ++ one ∷ []
     → IsReadUpTo names lines (here + 1) new
@@ -66,11 +67,11 @@ taken names found lines here before after line said rules new one same inside is
       earlier = earlier_more names lines here so_far.earlier (refusal_here names lines here line false at ∙ given.0);
       rules_read =
           rw (pushed, table_more lines here line inside is)
-          (rules_push names (place_of_label lines) rules (table_of (take here lines)) one (rule_of_line line) so_far.rules_read given.1);
+          (rules_push names.caches (place_of_label lines) rules (table_of (take here lines)) one (rule_of_line line) so_far.rules_read given.1);
     }
 
 -- a rule that is refused
-pub refused : (names : List (List ℕ)) (found : List ℕ → Option ℕ) (lines : List RuleLine) (here first before after : ℕ) (line : RuleLine) (said : WrittenRule)
+pub refused : (names : SiteNames) (found : List ℕ → Option ℕ) (lines : List RuleLine) (here first before after : ℕ) (line : RuleLine) (said : WrittenRule)
     (refusal : Refusal) → ((text : List ℕ) → found text ≡ place_of_label lines text) → here < length lines → line ≡ get_or lines here line → said ≡ rule_of_line line
     → first ≤ before → GivesRule names found here before after said (Err refusal) → NoneRefusedBefore names lines here
     → ReadsRules names lines first after (Err (error_of line.line refusal))
@@ -92,9 +93,9 @@ refused names found lines here first before after line said (refusals.Refused ki
     }
 
 -- all rules
-pub all_read : (names : List (List ℕ)) (lines : List RuleLine) (here : ℕ) (rules : List Rule) → here ≡ length lines → IsReadUpTo names lines here rules
-    → NoneRefusedBefore names lines (length lines) × AreRulesOf names (place_of_label lines) rules (table_of lines)
+pub all_read : (names : SiteNames) (lines : List RuleLine) (here : ℕ) (rules : List Rule) → here ≡ length lines → IsReadUpTo names lines here rules
+    → NoneRefusedBefore names lines (length lines) × AreRulesOf names.caches (place_of_label lines) rules (table_of lines)
 all_read names lines here rules last h = (
   subst (λ (n : ℕ). NoneRefusedBefore names lines n) last h.earlier,
-  subst (λ (front : List RuleLine). AreRulesOf names (place_of_label lines) rules (table_of front)) (take_all here lines (omega arith)) h.rules_read,
+  subst (λ (front : List RuleLine). AreRulesOf names.caches (place_of_label lines) rules (table_of front)) (take_all here lines (omega arith)) h.rules_read,
 )

@@ -1,15 +1,21 @@
 -- What a compiled rule is of a written one.
-use Rattle.std.specs.Prelude.{◌≡◌, ℕ, List, [], codes, Option, unwrap_or, option_and_then, ℤ, pos, IsSomeAnd}
+use Rattle.std.specs.Prelude.{◌≡◌, ℕ, List, [], codes, map, Option, unwrap_or, option_and_then, ℤ, pos, IsSomeAnd}
 use Rattle.std.specs.List.{position_from}
 use Rattle.std.specs.Str.{bytes_eq}
 use Rattle.uw_base.specs.Numbers.{decimal_of, signed_of}
 use Rattle.uw_model.specs.declared.calls.MathOp.{MathOp}
 use Rattle.uw_model.specs.declared.calls.MathOp.TheVariants as ops
+use Rattle.uw_model.specs.declared.areas.Width.{Width}
+use Rattle.uw_model.specs.declared.areas.Width.TheVariants as widths
+use Rattle.uw_rules.specs.declared.grammar.Table.{Table}
 use Rattle.uw_rules.specs.declared.grammar.ConditionName.{ConditionName}
 use Rattle.uw_rules.specs.declared.grammar.ConditionName.TheVariants as conditions
 use Rattle.uw_rules.specs.declared.grammar.ActionName.{ActionName}
 use Rattle.uw_rules.specs.declared.grammar.ActionName.TheVariants as actions
 use Rattle.uw_rules.specs.declared.compiled.CacheWrite.{CacheWrite}
+use Rattle.uw_rules.specs.declared.compiled.AreaStep.{AreaStep}
+use Rattle.uw_rules.specs.declared.compiled.AreaStep.TheVariants as steps
+use Rattle.uw_rules.specs.declared.compiled.TaskPair.{TaskPair}
 use Rattle.uw_rules.specs.declared.compiled.Condition.{Condition}
 use Rattle.uw_rules.specs.declared.compiled.Condition.TheVariants as asks
 use Rattle.uw_rules.specs.declared.compiled.Test.{Test}
@@ -20,7 +26,7 @@ use Rattle.uw_rules.specs.declared.compiled.Rule.{Rule}
 use Rattle.uw_rules.specs.declared.compiled.RuleTable.{RuleTable}
 use Rattle.uw_rules.specs.declared.compiled.Rule.TheVariants as compiled
 use Rattle.uw_rules.specs.Grammar.{action_of, condition_of}
-use Rattle.uw_rules.specs.Arguments.{code_of, first_half, second_half, text_of_key}
+use Rattle.uw_rules.specs.Arguments.{argument_pairs, code_of, first_half, key_of_pair, second_half, text_of_key, text_of_pair, width_of}
 use Rattle.uw_rules.specs.Patterns.{IsPatternOf}
 use Rattle.uw_rules.specs.WrittenRules.{Phrase, WrittenTest, WrittenRule, always, matching, holding, label, rule}
 
@@ -39,6 +45,26 @@ or_zero text = unwrap_or (option_and_then decimal_of text) 0
 -- the number of a text with a sign, 1 where it is left out
 abbrev pub or_one : Option (List ℕ) → ℤ
 or_one text = unwrap_or (option_and_then signed_of text) (pos 1)
+
+-- the number under a key, another one where it is left out
+abbrev pub number_under : List ℕ → ℕ → Option (List ℕ) → ℕ
+number_under key otherwise argument = unwrap_or (option_and_then decimal_of (text_of_key key argument)) otherwise
+
+-- the width under its key
+abbrev pub width_under : Option (List ℕ) → Width
+width_under argument = unwrap_or (option_and_then width_of (text_of_key (codes "width") argument)) widths.W8
+
+-- the place under its key
+abbrev pub place_under : Option (List ℕ) → ℕ
+place_under argument = number_under (codes "at") 0 argument
+
+-- an operation of an area that needs no text
+abbrev pub area_step : AreaStep → Option (List ℕ) → Action
+area_step step argument = does.Area (number_under (codes "area") 0 argument) step (text_of_key (codes "var") argument)
+
+-- the variables of a task, whose values are templates
+abbrev pub task_pairs : Option (List ℕ) → List TaskPair
+task_pairs argument = map (λ pair. record { key = key_of_pair pair; value = or_empty (text_of_pair pair) }) (argument_pairs argument)
 
 -- the number of the cache that a text names; none where it is left out
 unfoldable pub cache_named : List (List ℕ) → Option (List ℕ) → Option ℕ
@@ -84,6 +110,19 @@ action_meant names labels actions.CacheInc argument = math_of names ops.Inc argu
 action_meant names labels actions.CacheDec argument = math_of names ops.Dec argument
 action_meant names labels actions.CacheMul argument = math_of names ops.Mul argument
 action_meant names labels actions.CacheDiv argument = math_of names ops.Div argument
+action_meant names labels actions.AreaRead argument = area_step (steps.Read (place_under argument) (number_under (codes "len") 0 argument)) argument
+action_meant names labels actions.AreaWrite argument =
+    does.AreaWrite (number_under (codes "area") 0 argument) (place_under argument) (or_empty (text_of_key (codes "value") argument)) (text_of_key (codes "var") argument)
+action_meant names labels actions.AreaNum argument = area_step (steps.ReadNum (place_under argument) (width_under argument)) argument
+action_meant names labels actions.AreaSet argument =
+    area_step (steps.WriteNum (place_under argument) (width_under argument) (number_under (codes "value") 0 argument)) argument
+action_meant names labels actions.AreaInc argument =
+    area_step (steps.IncNum (place_under argument) (width_under argument) (number_under (codes "by") 1 argument)) argument
+action_meant names labels actions.AreaDec argument =
+    area_step (steps.DecNum (place_under argument) (width_under argument) (number_under (codes "by") 1 argument)) argument
+action_meant names labels actions.AreaUpdates argument = area_step steps.Updates argument
+action_meant names labels actions.Spool argument = does.Spool (task_pairs argument)
+action_meant names labels actions.SpoolEnd argument = does.SpoolEnd (unwrap_or (option_and_then signed_of argument) (pos 0))
 
 -- the compiled condition is that of a condition of this name with this argument
 abbrev pub IsConditionOf : List (List ℕ) → Condition → ConditionName → Option (List ℕ) → Type 0
@@ -108,12 +147,12 @@ IsTestOf names (tests.Holds negated condition) (holding written_negated phrase) 
     (negated ≡ written_negated) × IsSomeAnd (condition_of phrase.name) (λ known. IsConditionOf names condition known.0 phrase.argument)
 IsTestOf names _ _ = ⊥
 
--- the compiled action is the written one
-abbrev pub IsActionOf : List (List ℕ) → (List ℕ → Option ℕ) → Action → Phrase → Type 0
-IsActionOf names labels action phrase = IsSomeAnd (action_of phrase.name) (λ known. action ≡ action_meant names labels known.0 phrase.argument)
+-- the compiled action is the written one of a table
+abbrev pub IsActionOf : List (List ℕ) → (List ℕ → Option ℕ) → Table → Action → Phrase → Type 0
+IsActionOf names labels table action phrase = IsSomeAnd (action_of table phrase.name) (λ known. action ≡ action_meant names labels known.0 phrase.argument)
 
 -- the compiled rule is the written one: a label; or its test and its action, with numbers where the text has names of caches and labels
 abbrev pub IsRuleOf : List (List ℕ) → (List ℕ → Option ℕ) → Rule → WrittenRule → Type 0
 IsRuleOf names labels compiled.Label (label text) = Unit {0}
-IsRuleOf names labels (compiled.Act test action) (rule written_test phrase) = IsTestOf names test written_test × IsActionOf names labels action phrase
+IsRuleOf names labels (compiled.Act test action) (rule table written_test phrase) = IsTestOf names test written_test × IsActionOf names labels table action phrase
 IsRuleOf names labels _ _ = ⊥

@@ -6,7 +6,7 @@ use Rattle.std.specs.Option.{option_map, option_map_or}
 use Rattle.uw_rules.specs.declared.grammar.Slot.{Slot}
 use Rattle.uw_rules.specs.declared.grammar.Shape.{Shape}
 use Rattle.uw_rules.specs.declared.grammar.Shape.TheVariants as code
-use Rattle.uw_rules.specs.Grammar.{ArgumentShape, KeyRow, bare, optional_text, whole_text, divided_text, keyed_texts}
+use Rattle.uw_rules.specs.Grammar.{ArgumentShape, KeyRow, bare, optional_text, whole_text, divided_text, keyed_texts, free_texts}
 
 -- a key of an argument list
 abbrev pub slot_seen : Slot → KeyRow
@@ -19,6 +19,7 @@ shape_seen (code.Optional kind) = optional_text kind
 shape_seen (code.Whole kind) = whole_text kind
 shape_seen (code.Divided at first second) = divided_text at first second
 shape_seen (code.Keyed slots) = keyed_texts (map slot_seen slots.now)
+shape_seen (code.Free kind) = free_texts kind
 
 -- rows of names
 abbrev pub named_rows : {X : Type 0} → List (Bor (List ℕ) × X) → List (List ℕ × X)

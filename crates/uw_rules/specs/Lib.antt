@@ -7,7 +7,7 @@ pub mod WrittenRules
 pub mod Rules
 pub mod Compiled
 pub mod Tables
-pub mod CacheNumbers
+pub mod PartNumbers
 pub mod GrammarSteps
 pub mod CheckSteps
 pub mod WrittenSteps

@@ -7,7 +7,7 @@ use Rattle.uw_rules.specs.declared.lines.RuleLine.{RuleLine}
 use Rattle.uw_rules.specs.declared.kinds.RuleKind.{RuleKind}
 use Rattle.uw_rules.specs.declared.kinds.RuleKind.TheVariants as refusals
 use Rattle.uw_rules.specs.Grammar.{ArgumentShape, action_of, condition_of}
-use Rattle.uw_rules.specs.Arguments.{Place, is_bad_argument, is_bad_template, is_label, is_missed_label, is_unknown_name, pattern_in, text_places}
+use Rattle.uw_rules.specs.Arguments.{Place, SiteNames, is_bad_argument, is_bad_template, is_label, is_missed_label, is_unknown_name, pattern_in, text_places}
 use Rattle.uw_rules.specs.Patterns.{is_pattern}
 use Rattle.uw_rules.specs.WrittenRules.{WrittenTest, WrittenRule, always, matching, holding, unparted, label, rule, rule_of_line}
 
@@ -37,7 +37,7 @@ any_text_of_test is_such (holding negated condition) = any_place is_such (condit
 abbrev pub any_text : (Place → Bool) → WrittenRule → Bool
 any_text is_such unparted = false
 any_text is_such (label text) = false
-any_text is_such (rule test action) = any_text_of_test is_such test || any_place is_such (action_of action.name) action.argument
+any_text is_such (rule table test action) = any_text_of_test is_such test || any_place is_such (action_of table action.name) action.argument
 
 -- the test's pattern
 abbrev pub pattern_of_test : WrittenTest → Option (List ℕ)
@@ -49,7 +49,7 @@ pattern_of_test (holding negated condition) = option_and_then (λ known. pattern
 abbrev pub pattern_of_rule : WrittenRule → Option (List ℕ)
 pattern_of_rule unparted = None
 pattern_of_rule (label text) = None
-pattern_of_rule (rule test action) = pattern_of_test test
+pattern_of_rule (rule table test action) = pattern_of_test test
 
 -- the condition's name is unknown
 abbrev pub is_unknown_test : WrittenTest → Bool
@@ -63,13 +63,13 @@ is_unknown_test (holding negated condition) = is_none (condition_of condition.na
 unfoldable pub is_bad_rule : WrittenRule → Bool
 is_bad_rule unparted = true
 is_bad_rule (label text) = not (is_label text)
-is_bad_rule (rule test action) = is_bad_test test || is_bad_phrase (action_of action.name) action.argument
+is_bad_rule (rule table test action) = is_bad_test test || is_bad_phrase (action_of table action.name) action.argument
 
 -- the condition's name is unknown
 unfoldable pub has_unknown_condition : WrittenRule → Bool
 has_unknown_condition unparted = false
 has_unknown_condition (label text) = false
-has_unknown_condition (rule test action) = is_unknown_test test
+has_unknown_condition (rule table test action) = is_unknown_test test
 
 -- the rule has a pattern that is none
 unfoldable pub has_bad_pattern : WrittenRule → Bool
@@ -83,7 +83,7 @@ has_pattern written = is_some (pattern_of_rule written)
 unfoldable pub has_unknown_action : WrittenRule → Bool
 has_unknown_action unparted = false
 has_unknown_action (label text) = false
-has_unknown_action (rule test action) = is_none (action_of action.name)
+has_unknown_action (rule table test action) = is_none (action_of table action.name)
 
 -- a template of the rule has a bad form
 unfoldable pub has_bad_template : WrittenRule → Bool
@@ -93,14 +93,14 @@ has_bad_template written = any_text is_bad_template written
 unfoldable pub is_label_twice : (List ℕ → Option ℕ) → ℕ → WrittenRule → Bool
 is_label_twice labels here unparted = false
 is_label_twice labels here (label text) = option_map_or (λ first. nat_lt first here) (labels text) false
-is_label_twice labels here (rule test action) = false
+is_label_twice labels here (rule table test action) = false
 
 -- the label of the `goto` is not ahead
 unfoldable pub misses_label : (List ℕ → Option ℕ) → ℕ → WrittenRule → Bool
 misses_label labels here written = any_text (is_missed_label labels here) written
 
--- the rule names a cache that there is not, or asks one where there is none
-unfoldable pub has_unknown_name : List (List ℕ) → WrittenRule → Bool
+-- the rule names a cache or an area that there is not, or asks a cache where there is none
+unfoldable pub has_unknown_name : SiteNames → WrittenRule → Bool
 has_unknown_name names written = any_text (is_unknown_name names) written
 
 -- why a rule is refused at its place in the table, before its pattern is looked at
@@ -118,8 +118,8 @@ pattern_refusal refused written =
     else (if has_bad_pattern written then Some refusals.BadPattern
     else None)
 
--- why a rule is refused behind its pattern, where the caches have these names and the labels stand first at these places
-abbrev pub late_refusal : List (List ℕ) → (List ℕ → Option ℕ) → ℕ → WrittenRule → Option RuleKind
+-- why a rule is refused behind its pattern, where these are the names of the site and the labels stand first at these places
+abbrev pub late_refusal : SiteNames → (List ℕ → Option ℕ) → ℕ → WrittenRule → Option RuleKind
 late_refusal names labels here written =
     if has_unknown_action written then Some refusals.UnknownAction
     else (if has_bad_template written then Some refusals.BadTemplate
@@ -134,7 +134,7 @@ first_of_two (Some kind) other = Some kind
 first_of_two None other = other
 
 -- why a rule is refused at its place in the table: for what comes before its pattern, for its pattern, or for what comes behind it
-unfoldable pub refusal_of_rule : List (List ℕ) → (List ℕ → Option ℕ) → ℕ → Bool → WrittenRule → Option RuleKind
+unfoldable pub refusal_of_rule : SiteNames → (List ℕ → Option ℕ) → ℕ → Bool → WrittenRule → Option RuleKind
 refusal_of_rule names labels here refused written =
     first_of_two (early_refusal here written) (first_of_two (pattern_refusal refused written) (late_refusal names labels here written))
 
@@ -148,12 +148,12 @@ table_of lines = map rule_of_line lines
 abbrev pub is_label_of : List ℕ → WrittenRule → Bool
 is_label_of text unparted = false
 is_label_of text (label other) = bytes_eq other text
-is_label_of text (rule test action) = false
+is_label_of text (rule table test action) = false
 
 -- the number of the rule that is a label: of the first one, since a later one is refused, as is one behind the 4,096th rule
 unfoldable pub place_of_label : List RuleLine → List ℕ → Option ℕ
 place_of_label lines text = position_from (is_label_of text) 0 (table_of (take 4096 lines))
 
 -- why the rule of a number is refused, if there is one and it is
-unfoldable pub rule_refusal_at : List (List ℕ) → List RuleLine → ℕ → Bool → Option RuleKind
+unfoldable pub rule_refusal_at : SiteNames → List RuleLine → ℕ → Bool → Option RuleKind
 rule_refusal_at names lines here refused = option_and_then (refusal_of_rule names (place_of_label lines) here refused) (option_map rule_of_line (slice_get lines here))

@@ -9,6 +9,7 @@ use Rattle.uw_rules.specs.declared.kinds.Refusal.TheVariants as refusals
 use Rattle.uw_rules.specs.declared.kinds.RulesError.{RulesError}
 use Rattle.uw_rules.specs.declared.kinds.RulesError.TheVariants as errors
 use Rattle.uw_rules.specs.declared.compiled.Rule.{Rule}
+use Rattle.uw_rules.specs.Arguments.{SiteNames}
 use Rattle.uw_rules.specs.Patterns.{IsPatternOf, is_pattern}
 use Rattle.uw_rules.specs.WrittenRules.{WrittenRule}
 use Rattle.uw_rules.specs.Rules.{refusal_of_rule}
@@ -33,8 +34,8 @@ GivesPatternIfAny before after text (Err (refusals.Refused kind)) = IsSomeAnd te
 GivesPatternIfAny before after text (Err refusals.Memory) = Unit {0}
 
 -- a rule gives what it is compiled to, or is refused for its text or for its pattern, or there was no memory
-abbrev pub GivesRule : List (List ℕ) → (List ℕ → Option ℕ) → ℕ → ℕ → ℕ → WrittenRule → Result Rule Refusal → Type 0
-GivesRule names labels here before after written (Ok rule) = (refusal_of_rule names labels here false written ≡ None) × IsRuleOf names labels rule written
+abbrev pub GivesRule : SiteNames → (List ℕ → Option ℕ) → ℕ → ℕ → ℕ → WrittenRule → Result Rule Refusal → Type 0
+GivesRule names labels here before after written (Ok rule) = (refusal_of_rule names labels here false written ≡ None) × IsRuleOf names.caches labels rule written
 GivesRule names labels here before after written (Err (refusals.Refused kind)) =
     (refusal_of_rule names labels here false written ≡ Some kind)
     ⊎ ((refusal_of_rule names labels here true written ≡ Some kind) × (kind ≡ kinds.PatternRefused) × Rose before after)

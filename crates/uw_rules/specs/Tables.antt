@@ -10,18 +10,19 @@ use Rattle.uw_rules.specs.declared.kinds.RulesError.{RulesError}
 use Rattle.uw_rules.specs.declared.kinds.RulesError.TheVariants as errors
 use Rattle.uw_rules.specs.declared.compiled.Rule.{Rule}
 use Rattle.uw_rules.specs.declared.compiled.RuleTable.{RuleTable}
+use Rattle.uw_rules.specs.Arguments.{SiteNames}
 use Rattle.uw_rules.specs.Grammar.{kind_of_line}
 use Rattle.uw_rules.specs.WrittenRules.{WrittenRule}
 use Rattle.uw_rules.specs.Rules.{place_of_label, rule_refusal_at, table_of}
 use Rattle.uw_rules.specs.Compiled.{IsRuleOf, rules_of}
 
--- a line of the request table: an option of it, and a text of UTF-8 that is shorter than 2^32 bytes
+-- a line of a table: an option of rules, and a text of UTF-8 that is shorter than 2^32 bytes
 pub record IsRuleLine (line : RuleLine) : Type 0 where
   pub option : is_some (kind_of_line line.form) ≡ true
   pub text : IsUtf8 line.text
   pub short : length line.text < 2 ^ 32
 
--- lines of the request table, whose numbers rise
+-- lines of a table, whose numbers rise
 pub record AreRuleLines (lines : List RuleLine) : Type 0 where
   pub each : All IsRuleLine lines
   pub rising : IsStrictlyIncreasing (map (λ (line : RuleLine). line.line) lines)
@@ -33,24 +34,24 @@ AreRulesOf names labels (compiled ∷ more) (written ∷ others) = IsRuleOf name
 AreRulesOf names labels _ _ = ⊥
 
 -- no line before this one is refused
-abbrev pub NoneRefusedBefore : List (List ℕ) → List RuleLine → ℕ → Type 0
+abbrev pub NoneRefusedBefore : SiteNames → List RuleLine → ℕ → Type 0
 NoneRefusedBefore names lines here = (earlier : ℕ) → earlier < here → rule_refusal_at names lines earlier false ≡ None
 
 -- the rule is refused for its text; or for its pattern, which the maker of patterns refused and counted
-abbrev pub IsRefusedFor : List (List ℕ) → List RuleLine → ℕ → ℕ → ℕ → RuleKind → Type 0
+abbrev pub IsRefusedFor : SiteNames → List RuleLine → ℕ → ℕ → ℕ → RuleKind → Type 0
 IsRefusedFor names lines before after here kind =
     (rule_refusal_at names lines here false ≡ Some kind) ⊎ ((rule_refusal_at names lines here true ≡ Some kind) × (kind ≡ refusals.PatternRefused) × Rose before after)
 
 -- the line of this number is the first that is refused, and it is refused for this kind
-pub record IsFirstRefused (names : List (List ℕ)) (lines : List RuleLine) (before after line : ℕ) (kind : RuleKind) : Type 0 where
+pub record IsFirstRefused (names : SiteNames) (lines : List RuleLine) (before after line : ℕ) (kind : RuleKind) : Type 0 where
   pub here : ℕ
   pub number : IsSomeAnd (slice_get lines here) (λ (refused : RuleLine). refused.line ≡ line)
   pub earlier : NoneRefusedBefore names lines here
   pub cause : IsRefusedFor names lines before after here kind
 
 -- a table whose lines are not refused, with their rules; or the first refused line, with its kind, where the maker of patterns counted its refusals; or no memory
-abbrev pub ReadsRules : List (List ℕ) → List RuleLine → ℕ → ℕ → Result RuleTable RulesError → Type 0
-ReadsRules names lines before after (Ok table) = NoneRefusedBefore names lines (length lines) × AreRulesOf names (place_of_label lines) (rules_of table) (table_of lines)
+abbrev pub ReadsRules : SiteNames → List RuleLine → ℕ → ℕ → Result RuleTable RulesError → Type 0
+ReadsRules names lines before after (Ok table) = NoneRefusedBefore names lines (length lines) × AreRulesOf names.caches (place_of_label lines) (rules_of table) (table_of lines)
 ReadsRules names lines before after (Err (errors.Refused line kind)) = IsFirstRefused names lines before after line kind
 ReadsRules names lines before after (Err errors.Memory) = Unit {0}
 

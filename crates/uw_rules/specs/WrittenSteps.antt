@@ -26,7 +26,7 @@ test_seen (code_tests.Holding negated condition) = holding negated (phrase_seen 
 abbrev pub written_seen : code_rule.WrittenRule → WrittenRule
 written_seen code_rules.Unparted = unparted
 written_seen (code_rules.Label text) = label text.now
-written_seen (code_rules.Rule test action) = rule (test_seen test) (phrase_seen action)
+written_seen (code_rules.Rule table test action) = rule table (test_seen test) (phrase_seen action)
 
 -- the text before the first space (32), and the action behind it; or there is no space
 abbrev pub parted_seen : List ℕ → Option (Bor (List ℕ) × code.Phrase) → Type 0
@@ -49,4 +49,4 @@ IsShortTest (holding negated condition) = IsShortPhrase condition
 abbrev pub AreShort : WrittenRule → Type 0
 AreShort unparted = Unit {0}
 AreShort (label text) = Unit {0}
-AreShort (rule test action) = IsShortTest test × IsShortPhrase action
+AreShort (rule table test action) = IsShortTest test × IsShortPhrase action

@@ -1,12 +1,17 @@
 // What stands behind the `:` of a condition or an action, taken apart by its shape.
-ghost use Rattle.std.specs.Prelude.{◌≡◌, ◌==◌, ◌||◌, if◌then◌else◌, map, Some, None, option_and_then};
+ghost use Rattle.std.specs.Prelude.{◌≡◌, ◌==◌, ◌&&◌, ◌||◌, if◌then◌else◌, is_some, map, Some, None, IfOk, option_and_then};
+ghost use Rattle.std.specs.HashSet.{contains_by};
 ghost use Rattle.std.specs.List.{after_first, list_any};
 ghost use Rattle.std.specs.Option.{option_copied};
-ghost use Rattle.uw_rules.specs.Arguments.{argument_pairs, first_half, has_stray, is_pair_of, is_stray_pair, is_twice, second_half, text_of_key};
+ghost use Rattle.std.specs.Str.{bytes_eq};
+ghost use Rattle.uw_rules.specs.Arguments.{argument_pairs, first_half, has_key_twice, has_stray, is_pair_of, is_stray_pair, is_twice, second_half, text_of_key};
 ghost use Rattle.uw_rules.specs.Grammar.{KeyRow};
 ghost use Rattle.uw_rules.specs.GrammarSteps.{pairs_left, shape_seen, slot_seen};
 
 use crate::grammar::{Shape, Slot};
+use std::alloc::Global;
+use std::collections::HashSet;
+use uw_base::Memory;
 use uw_base::texts::{cut, is};
 
 // The text of a pair, where it is one of the key.
@@ -126,14 +131,47 @@ fn is_any_twice(pairs: Option<&[u8]>, slots: &[Slot]) -> bool
     false
 }
 
-/// Whether something stands in the argument that has no place there.
+// Whether a pair has a text, and its key was seen.
+fn is_seen(seen: &HashSet<&[u8]>, key: &[u8], text: Option<&[u8]>) -> bool
+    ensures { result ≡ (is_some text.entry && contains_by (λ k. bytes_eq key.now k.now) seen.now) }
+{
+    text.is_some() && seen.contains(key)
+}
+
+// Whether a key of the pairs stands twice. The keys are kept in a set, since a line may have many.
+fn has_key_twice(alloc: Global, pairs: Option<&[u8]>) -> Result<bool, Memory>
+    ensures { IfOk result (λ twice. twice ≡ has_key_twice (pairs_left pairs.entry)) }
+{
+    let mut seen: HashSet<&[u8]> = HashSet::new(alloc);
+    let mut rest = pairs;
+    'pairs: while let Some(left) = rest {
+        let (pair, more) = cut(left, b',');
+        let (key, text) = cut(pair, b'=');
+        if is_seen(&seen, key, text) {
+            return Ok(true);
+        }
+        seen.insert(key)?;
+        rest = more;
+    }
+    Ok(false)
+}
+
+/// Whether something stands in the argument that has no place there, or there are no pairs where some must stand.
 #[tactic(auto, using(crate::proofs::ArgumentLemmas::pairs_left_seen), unfolding(crate::specs::Arguments::has_stray))]
-pub fn has_stray(shape: Shape, argument: Option<&[u8]>) -> bool
-    ensures { result ≡ has_stray (shape_seen shape) (option_copied argument.entry) }
+pub fn has_stray(alloc: Global, shape: Shape, argument: Option<&[u8]>) -> Result<bool, Memory>
+    ensures { IfOk result (λ stray. stray ≡ has_stray (shape_seen shape) (option_copied argument.entry)) }
 {
     match shape {
-        Shape::Bare => argument.is_some(),
-        Shape::Keyed(slots) => has_stray_pair(argument, slots) || is_any_twice(argument, slots),
-        _ => false,
+        Shape::Bare => Ok(argument.is_some()),
+        Shape::Keyed(slots) => {
+            Ok(has_stray_pair(argument, slots) || is_any_twice(argument, slots))
+        }
+        Shape::Free(_) => {
+            if argument.is_none() {
+                return Ok(true);
+            }
+            has_key_twice(alloc, argument)
+        }
+        Shape::Optional(_) | Shape::Whole(_) | Shape::Divided(_, _, _) => Ok(false),
     }
 }

@@ -5,8 +5,9 @@ ghost use Rattle.uw_rules.specs.Compiled.{rules_of};
 use crate::grammar::Subject;
 use regex::bytes::Regex;
 use std::alloc::Global;
+use std::marker::Model;
 use uw_base::{Bytes, Memory};
-use uw_model::MathOp;
+use uw_model::{MathOp, Width};
 use uw_subst::Template;
 
 /// What a condition asks of the filled templates. A cache is named by its number; none stands for the first one.
@@ -48,7 +49,67 @@ pub struct CacheWrite {
     pub var: Option<Bytes>,
 }
 
-/// What a rule does. Caches are named by their numbers, none standing for the first one; `expires` is in seconds.
+/// An operation of an area that needs no text.
+#[derive(Clone, Copy, Debug, PartialEq, Eq)]
+pub enum AreaStep {
+    Read { at: u64, len: u64 },
+    ReadNum { at: u64, width: Width },
+    WriteNum { at: u64, width: Width, value: u64 },
+    IncNum { at: u64, width: Width, by: u64 },
+    DecNum { at: u64, width: Width, by: u64 },
+    Updates,
+}
+
+/// A variable of a task.
+#[derive(Drop)]
+pub struct TaskPair {
+    pub key: Bytes,
+    pub value: Template,
+}
+
+/// The variables of a task, in their order. Contracts see them as a list.
+#[derive(Drop)]
+pub struct TaskPairs {
+    pairs: Vec<TaskPair>,
+}
+
+impl Model for TaskPairs {
+    ghost use Rattle.std.specs.Prelude.{List};
+    ghost use Rattle.uw_rules.specs.declared.compiled.TaskPair.{TaskPair};
+
+    ghost Value = { List TaskPair };
+
+    ghost view = { λ p. p.pairs.items };
+}
+
+impl TaskPairs {
+    /// No variable. Takes no memory.
+    pub fn new(alloc: Global) -> TaskPairs
+        ensures { result ≡ [] }
+    {
+        TaskPairs {
+            pairs: Vec::new(alloc),
+        }
+    }
+
+    pub fn as_slice(&self) -> &[TaskPair]
+        ensures { result.now ≡ self.now }
+    {
+        self.pairs.as_slice()
+    }
+
+    // Puts one variable at the end.
+    pub(crate) fn push(&mut self, pair: TaskPair) -> Result<(), Memory>
+        ensures ok { OnOk result (self.new ≡ self.old ++ pair ∷ []) }
+        ensures err { OnErr result (self.new ≡ self.old) }
+    {
+        self.pairs.push(pair)?;
+        Ok(())
+    }
+}
+
+/// What a rule does. Caches are named by their numbers, none standing for the first one, and areas by theirs; `expires`
+/// is in seconds.
 #[derive(Drop)]
 pub enum Action {
     /// Ends the table.
@@ -114,6 +175,27 @@ pub enum Action {
         expires: u64,
         cache: Option<u32>,
         var: Option<Bytes>,
+    },
+    /// Makes an operation of an area, and puts the answer into a variable.
+    Area {
+        area: u32,
+        step: AreaStep,
+        var: Option<Bytes>,
+    },
+    /// Writes a text into an area.
+    AreaWrite {
+        area: u32,
+        at: u64,
+        value: Template,
+        var: Option<Bytes>,
+    },
+    /// Puts a task aside.
+    Spool {
+        pairs: TaskPairs,
+    },
+    /// Ends the task with this status.
+    SpoolEnd {
+        status: i64,
     },
 }
 

@@ -4,9 +4,9 @@ ghost use Rattle.std.specs.List.{position_from};
 ghost use Rattle.std.specs.Str.{bytes_eq};
 ghost use Rattle.std.specs.Option.{option_copied};
 ghost use Rattle.uw_rules.specs.Arguments.{code_of, first_half, is_bad_argument, pattern_in, second_half, text_of_key};
-ghost use Rattle.uw_rules.specs.CheckSteps.{IsShortText};
-ghost use Rattle.uw_rules.specs.Compiled.{IsConditionOf, IsRuleOf, IsTestOf, action_meant, cache_named, math_of, or_empty, or_one, or_zero, write_of};
-ghost use Rattle.uw_rules.specs.CompileSteps.{CanCompile, CanCompileTest, IsPatternIn, condition_shape, HasGoodTemplates, IsGoodTemplate, action_shape};
+ghost use Rattle.uw_rules.specs.CheckSteps.{IsShortText, names_seen};
+ghost use Rattle.uw_rules.specs.Compiled.{IsConditionOf, IsRuleOf, IsTestOf, action_meant, cache_named, math_of, or_empty, write_of};
+ghost use Rattle.uw_rules.specs.CompileSteps.{CanCompile, CanCompileTest, IsPatternIn, condition_shape, HasGoodTemplates, KnowsNames, action_shape};
 ghost use Rattle.uw_rules.specs.LabelSteps.{label_place};
 ghost use Rattle.uw_rules.specs.Grammar.{calculating_keys, keyed_texts, writing_keys};
 ghost use Rattle.uw_rules.specs.Rules.{pattern_of_rule, pattern_of_test};
@@ -14,95 +14,22 @@ ghost use Rattle.uw_rules.specs.WrittenSteps.{AreShort, IsShortTest, test_seen, 
 ghost use Rattle.uw_rules.specs.declared.grammar.ActionName.TheVariants as actions;
 ghost use Rattle.uw_rules.specs.declared.grammar.ConditionName.TheVariants as conditions;
 
+use crate::area_actions::{area_step, area_write, dec_num, inc_num, read, read_num, write_num};
 use crate::arguments::{first_half, second_half, text_of_key};
 use crate::checks::code_of;
-use crate::compiled::{Action, CacheWrite, Condition, Rule, Test};
+use crate::compiled::{Action, AreaStep, CacheWrite, Condition, Rule, Test};
 use crate::grammar::{ActionName, ConditionName, action_of, condition_of};
 use crate::judging::Site;
 use crate::labels::Labels;
+use crate::task_actions::{status, task_pairs};
+use crate::texts::{or_one, or_zero, template, template_at, template_if_any, text, text_if_any};
 use crate::written::{WrittenRule, WrittenTest};
 use regex::bytes::Regex;
 use std::alloc::Global;
 use uw_base::texts::is;
-use uw_base::{Bytes, Memory, read_decimal, read_signed};
+use uw_base::{Bytes, Memory};
 use uw_model::MathOp;
-use uw_subst::{SubstFault, Template};
-
-// A template, the empty one where it is left out.
-fn template(alloc: Global, text: Option<&[u8]>) -> Result<Template, Memory>
-    requires short { IsShortText (option_copied text) }
-    requires good { IsGoodTemplate (option_copied text) }
-    ensures { IfOk result (λ template. template ≡ or_empty (option_copied text.entry)) }
-{
-    match Template::read(alloc, text.unwrap_or(&[])) {
-        Ok(template) => Ok(template),
-        Err(SubstFault::Memory) => Err(Memory),
-        Err(SubstFault::BadTemplate { .. }) => unreachable!(),
-    }
-}
-
-// The template of a key, the empty one where it is left out.
-fn template_at(alloc: Global, argument: Option<&[u8]>, key: &[u8]) -> Result<Template, Memory>
-    requires short { IsShortText (option_copied argument) }
-    requires good { IsGoodTemplate (text_of_key key.now (option_copied argument)) }
-    ensures { IfOk result (λ template. template ≡ or_empty (text_of_key key.now (option_copied argument.entry))) }
-{
-    template(alloc, text_of_key(argument, key))
-}
-
-// The template of a key, if it stands.
-fn template_if_any(
-    alloc: Global,
-    argument: Option<&[u8]>,
-    key: &[u8],
-) -> Result<Option<Template>, Memory>
-    requires short { IsShortText (option_copied argument) }
-    requires good { IsGoodTemplate (text_of_key key.now (option_copied argument)) }
-    ensures { IfOk result (λ template. template ≡ text_of_key key.now (option_copied argument.entry)) }
-{
-    let text = text_of_key(argument, key);
-    if text.is_none() {
-        return Ok(None);
-    }
-    Ok(Some(template(alloc, text)?))
-}
-
-// A copy of a text, the empty one where it is left out.
-fn text(alloc: Global, text: Option<&[u8]>) -> Result<Bytes, Memory>
-    ensures { IfOk result (λ bytes. bytes ≡ or_empty (option_copied text.entry)) }
-{
-    Bytes::from_slice(alloc, text.unwrap_or(&[]))
-}
-
-// A copy of a text, if it stands.
-fn text_if_any(alloc: Global, text: Option<&[u8]>) -> Result<Option<Bytes>, Memory>
-    ensures { IfOk result (λ bytes. bytes ≡ option_copied text.entry) }
-{
-    match text {
-        Some(text) => Ok(Some(Bytes::from_slice(alloc, text)?)),
-        None => Ok(None),
-    }
-}
-
-// The number of a decimal text, 0 where it is left out.
-fn or_zero(text: Option<&[u8]>) -> u64
-    ensures { result ≡ or_zero (option_copied text.entry) }
-{
-    match text {
-        Some(text) => read_decimal(text).unwrap_or(0),
-        None => 0,
-    }
-}
-
-// The number of a text with a sign, 1 where it is left out.
-fn or_one(text: Option<&[u8]>) -> i64
-    ensures { result ≡ or_one (option_copied text.entry) }
-{
-    match text {
-        Some(text) => read_signed(text).unwrap_or(1),
-        None => 1,
-    }
-}
+use uw_subst::Template;
 
 // The number of a cache's name.
 fn number_of(names: &[Bytes], name: &[u8]) -> Option<u32>
@@ -254,13 +181,15 @@ pub fn action_meant(
     name: ActionName,
     argument: Option<&[u8]>,
 ) -> Result<Action, Memory>
-    requires names { length site.now.names.now < 2 ^ 32 }
+    requires names { length site.now.names.caches.now < 2 ^ 32 }
+    requires areas { site.now.names.areas < 2 ^ 32 }
     requires short { IsShortText (option_copied argument) }
     requires good { HasGoodTemplates (action_shape name) (option_copied argument) }
+    requires known { KnowsNames (names_seen site.now.names) (action_shape name) (option_copied argument) }
     ensures { IfOk result (λ action. action
-        ≡ action_meant site.now.names.now (label_place site.now.labels) name (option_copied argument.entry)) }
+        ≡ action_meant site.now.names.caches.now (label_place site.now.labels) name (option_copied argument.entry)) }
 {
-    let names = site.names;
+    let names = site.names.caches;
     match name {
         ActionName::Continue => Ok(Action::Continue),
         ActionName::Break => Ok(Action::Break {
@@ -297,6 +226,19 @@ pub fn action_meant(
         ActionName::CacheDec => math_of(alloc, names, MathOp::Dec, argument),
         ActionName::CacheMul => math_of(alloc, names, MathOp::Mul, argument),
         ActionName::CacheDiv => math_of(alloc, names, MathOp::Div, argument),
+        ActionName::AreaRead => area_step(alloc, read(argument), argument),
+        ActionName::AreaWrite => area_write(alloc, argument),
+        ActionName::AreaNum => area_step(alloc, read_num(argument), argument),
+        ActionName::AreaSet => area_step(alloc, write_num(argument), argument),
+        ActionName::AreaInc => area_step(alloc, inc_num(argument), argument),
+        ActionName::AreaDec => area_step(alloc, dec_num(argument), argument),
+        ActionName::AreaUpdates => area_step(alloc, AreaStep::Updates, argument),
+        ActionName::Spool => Ok(Action::Spool {
+            pairs: task_pairs(alloc, argument)?,
+        }),
+        ActionName::SpoolEnd => Ok(Action::SpoolEnd {
+            status: status(argument),
+        }),
     }
 }
 
@@ -421,18 +363,23 @@ pub fn rule_meant(
     rule: WrittenRule<'_>,
     pattern: Option<Regex>,
 ) -> Result<Rule, Memory>
-    requires names { length site.now.names.now < 2 ^ 32 }
+    requires names { length site.now.names.caches.now < 2 ^ 32 }
+    requires areas { site.now.names.areas < 2 ^ 32 }
     requires short { AreShort (written_seen rule) }
-    requires taken { CanCompile (written_seen rule) }
+    requires taken { CanCompile (names_seen site.now.names) (written_seen rule) }
     requires pattern { IsPatternIn (pattern_of_rule (written_seen rule)) pattern }
-    ensures { IfOk result (λ compiled. IsRuleOf site.now.names.now (label_place site.now.labels) compiled (written_seen rule.entry)) }
+    ensures { IfOk result (λ compiled. IsRuleOf site.now.names.caches.now (label_place site.now.labels) compiled (written_seen rule.entry)) }
 {
     match rule {
         WrittenRule::Unparted => unreachable!(),
         WrittenRule::Label(_) => Ok(Rule::Label),
-        WrittenRule::Rule { test, action } => match action_of(action.name) {
+        WrittenRule::Rule {
+            table,
+            test,
+            action,
+        } => match action_of(table, action.name) {
             Some((name, _)) => Ok(Rule::Act {
-                test: test_meant(alloc, site.names, test, pattern)?,
+                test: test_meant(alloc, site.names.caches, test, pattern)?,
                 action: action_meant(alloc, site, name, action.argument)?,
             }),
             None => unreachable!(),

@@ -1,6 +1,7 @@
 // The grammar of rules, as tables: the options, the conditions and the actions.
 ghost use Rattle.std.specs.Prelude.{◌≡◌, Option, is_some};
-ghost use Rattle.uw_rules.specs.Grammar.{action_of, condition_of, kind_of_line, named, row_of};
+ghost use Rattle.std.specs.Option.{option_map};
+ghost use Rattle.uw_rules.specs.Grammar.{action_of, action_rows, condition_of, is_of_table, kind_of_line, named, row_of};
 ghost use Rattle.uw_rules.specs.GrammarSteps.{named_rows, rows_seen, row_seen};
 
 use uw_base::texts::is;
@@ -32,6 +33,15 @@ impl Subject {
     }
 }
 
+/// A table of rules.
+#[derive(Clone, Copy, Debug, PartialEq, Eq)]
+pub enum Table {
+    /// The rules of requests.
+    Requests,
+    /// The rules of tasks.
+    Tasks,
+}
+
 /// What a line of an option is.
 #[derive(Clone, Copy, Debug, PartialEq, Eq)]
 pub enum LineKind {
@@ -61,6 +71,12 @@ pub enum TextKind {
     Signed,
     /// The name of a cache.
     Cache,
+    /// The number of an area.
+    Area,
+    /// At most 65,536 bytes.
+    Length,
+    /// The bits of a number: 8, 16, 32 or 64.
+    Width,
     /// The code of a status.
     Code,
     /// The label of a later line.
@@ -85,8 +101,10 @@ pub enum Shape {
     Whole(TextKind),
     /// Two texts, before and behind the first such byte.
     Divided(u8, TextKind, TextKind),
-    /// Pairs `key=text`, joined by commas.
+    /// Pairs `key=text` of these keys, joined by commas.
     Keyed(&'static [Slot]),
+    /// Pairs `key=text` of any keys, joined by commas.
+    Free(TextKind),
 }
 
 /// What a condition asks.
@@ -123,18 +141,50 @@ pub enum ActionName {
     CacheDec,
     CacheMul,
     CacheDiv,
+    AreaRead,
+    AreaWrite,
+    AreaNum,
+    AreaSet,
+    AreaInc,
+    AreaDec,
+    AreaUpdates,
+    Spool,
+    SpoolEnd,
 }
 
-const OPTIONS: [(&[u8], LineKind); 9] = [
-    (b"route", LineKind::Pattern(Subject::PathInfo)),
-    (b"route-host", LineKind::Pattern(Subject::HttpHost)),
-    (b"route-uri", LineKind::Pattern(Subject::RequestUri)),
-    (b"route-qs", LineKind::Pattern(Subject::QueryString)),
-    (b"route-remote-addr", LineKind::Pattern(Subject::RemoteAddr)),
-    (b"route-run", LineKind::Always),
-    (b"route-if", LineKind::Condition { negated: false }),
-    (b"route-if-not", LineKind::Condition { negated: true }),
-    (b"route-label", LineKind::Label),
+const IF: LineKind = LineKind::Condition { negated: false };
+
+const IF_NOT: LineKind = LineKind::Condition { negated: true };
+
+const OPTIONS: [(&[u8], (Table, LineKind)); 13] = [
+    (
+        b"route",
+        (Table::Requests, LineKind::Pattern(Subject::PathInfo)),
+    ),
+    (
+        b"route-host",
+        (Table::Requests, LineKind::Pattern(Subject::HttpHost)),
+    ),
+    (
+        b"route-uri",
+        (Table::Requests, LineKind::Pattern(Subject::RequestUri)),
+    ),
+    (
+        b"route-qs",
+        (Table::Requests, LineKind::Pattern(Subject::QueryString)),
+    ),
+    (
+        b"route-remote-addr",
+        (Table::Requests, LineKind::Pattern(Subject::RemoteAddr)),
+    ),
+    (b"route-run", (Table::Requests, LineKind::Always)),
+    (b"route-if", (Table::Requests, IF)),
+    (b"route-if-not", (Table::Requests, IF_NOT)),
+    (b"route-label", (Table::Requests, LineKind::Label)),
+    (b"spool-run", (Table::Tasks, LineKind::Always)),
+    (b"spool-if", (Table::Tasks, IF)),
+    (b"spool-if-not", (Table::Tasks, IF_NOT)),
+    (b"spool-label", (Table::Tasks, LineKind::Label)),
 ];
 
 const KEY: Slot = Slot {
@@ -186,11 +236,50 @@ const NEEDED_VAR: Slot = Slot {
     required: true,
 };
 
+const AREA: Slot = Slot {
+    key: b"area",
+    kind: TextKind::Area,
+    required: true,
+};
+
+// The place in an area.
+const AT: Slot = Slot {
+    key: b"at",
+    kind: TextKind::Decimal,
+    required: true,
+};
+
+const LEN: Slot = Slot {
+    key: b"len",
+    kind: TextKind::Length,
+    required: true,
+};
+
+const WIDTH: Slot = Slot {
+    key: b"width",
+    kind: TextKind::Width,
+    required: true,
+};
+
+const NUMBER: Slot = Slot {
+    key: b"value",
+    kind: TextKind::Decimal,
+    required: true,
+};
+
+const BY: Slot = Slot {
+    key: b"by",
+    kind: TextKind::Decimal,
+    required: false,
+};
+
 const TWO_TEMPLATES: Shape = Shape::Divided(b';', TextKind::Template, TextKind::Template);
 
 const TO_WRITE: Shape = Shape::Keyed(&[KEY, VALUE, EXPIRES, NAME, VAR]);
 
 const TO_CALCULATE: Shape = Shape::Keyed(&[KEY, AMOUNT, EXPIRES, NAME, VAR]);
+
+const TO_COUNT: Shape = Shape::Keyed(&[AREA, AT, WIDTH, BY, VAR]);
 
 const CONDITIONS: [(&[u8], ConditionName, Shape); 7] = [
     (b"equal", ConditionName::Equal, TWO_TEMPLATES),
@@ -214,7 +303,7 @@ const CONDITIONS: [(&[u8], ConditionName, Shape); 7] = [
     ),
 ];
 
-const ACTIONS: [(&[u8], ActionName, Shape); 20] = [
+const ACTIONS: [(&[u8], ActionName, Shape); 29] = [
     (b"continue", ActionName::Continue, Shape::Bare),
     (b"last", ActionName::Continue, Shape::Bare),
     (
@@ -271,10 +360,43 @@ const ACTIONS: [(&[u8], ActionName, Shape); 20] = [
     (b"cachedec", ActionName::CacheDec, TO_CALCULATE),
     (b"cachemul", ActionName::CacheMul, TO_CALCULATE),
     (b"cachediv", ActionName::CacheDiv, TO_CALCULATE),
+    (
+        b"arearead",
+        ActionName::AreaRead,
+        Shape::Keyed(&[AREA, AT, LEN, NEEDED_VAR]),
+    ),
+    (
+        b"areawrite",
+        ActionName::AreaWrite,
+        Shape::Keyed(&[AREA, AT, VALUE, VAR]),
+    ),
+    (
+        b"areanum",
+        ActionName::AreaNum,
+        Shape::Keyed(&[AREA, AT, WIDTH, NEEDED_VAR]),
+    ),
+    (
+        b"areaset",
+        ActionName::AreaSet,
+        Shape::Keyed(&[AREA, AT, WIDTH, NUMBER, VAR]),
+    ),
+    (b"areainc", ActionName::AreaInc, TO_COUNT),
+    (b"areadec", ActionName::AreaDec, TO_COUNT),
+    (
+        b"areaupdates",
+        ActionName::AreaUpdates,
+        Shape::Keyed(&[AREA, NEEDED_VAR]),
+    ),
+    (b"spool", ActionName::Spool, Shape::Free(TextKind::Template)),
+    (
+        b"spool-end",
+        ActionName::SpoolEnd,
+        Shape::Whole(TextKind::Signed),
+    ),
 ];
 
-// What a line of an option is.
-fn kind_in(mut rows: &[(&[u8], LineKind)], name: &[u8]) -> Option<LineKind>
+// The table of an option, and what a line of it is.
+fn kind_in(mut rows: &[(&[u8], (Table, LineKind))], name: &[u8]) -> Option<(Table, LineKind)>
     ensures { result ≡ named (named_rows rows.entry.now) name.now }
 {
     while let [row, rest @ ..] = rows {
@@ -286,8 +408,8 @@ fn kind_in(mut rows: &[(&[u8], LineKind)], name: &[u8]) -> Option<LineKind>
     None
 }
 
-/// What a line of an option is.
-pub fn kind_of_line(option: &[u8]) -> Option<LineKind>
+/// The table of an option, and what a line of it is.
+pub fn kind_of_line(option: &[u8]) -> Option<(Table, LineKind)>
     ensures { result ≡ kind_of_line option.now }
 {
     kind_in(&OPTIONS, option)
@@ -298,6 +420,16 @@ pub fn is_rule_option(option: &[u8]) -> bool
     ensures { result ≡ is_some (kind_of_line option.now) }
 {
     kind_of_line(option).is_some()
+}
+
+/// The table of an option of the configuration, if it is a rule's.
+pub fn table_of_option(option: &[u8]) -> Option<Table>
+    ensures { result ≡ option_map (λ known. known.0) (kind_of_line option.now) }
+{
+    match kind_of_line(option) {
+        Some((table, _)) => Some(table),
+        None => None,
+    }
 }
 
 // The row of a name.
@@ -320,9 +452,45 @@ pub fn condition_of(name: &[u8]) -> Option<(ConditionName, Shape)>
     row_in(&CONDITIONS, name)
 }
 
-/// What an action of this name does, and what stands behind its `:`.
-pub fn action_of(name: &[u8]) -> Option<(ActionName, Shape)>
-    ensures { row_seen result ≡ action_of name.now }
+// Whether the action is one of the table's.
+fn is_of_table(table: Table, action: ActionName) -> bool
+    ensures { result ≡ is_of_table table action }
+{
+    match table {
+        Table::Requests => action != ActionName::SpoolEnd,
+        Table::Tasks => !matches!(
+            action,
+            ActionName::Break
+                | ActionName::Return
+                | ActionName::Redirect
+                | ActionName::RedirectPermanent
+                | ActionName::AddHeader
+                | ActionName::Send
+                | ActionName::Cache
+        ),
+    }
+}
+
+// The row of an action, whatever its table.
+fn row_of_action(name: &[u8]) -> Option<(ActionName, Shape)>
+    ensures { row_seen result ≡ row_of action_rows name.now }
 {
     row_in(&ACTIONS, name)
+}
+
+/// What an action of this name does in a table, and what stands behind its `:`.
+#[tactic(auto, unfolding(crate::specs::Grammar::action_of))]
+pub fn action_of(table: Table, name: &[u8]) -> Option<(ActionName, Shape)>
+    ensures { row_seen result ≡ action_of table name.now }
+{
+    match row_of_action(name) {
+        Some(row) => {
+            if is_of_table(table, row.0) {
+                Some(row)
+            } else {
+                None
+            }
+        }
+        None => None,
+    }
 }

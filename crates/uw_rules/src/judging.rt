@@ -1,8 +1,8 @@
 // Whether a rule as written is refused for its texts.
-ghost use Rattle.std.specs.Prelude.{◌≡◌, false};
+ghost use Rattle.std.specs.Prelude.{◌≡◌, false, IfOk};
 ghost use Rattle.std.specs.Option.{option_copied};
 ghost use Rattle.uw_rules.specs.Arguments.{is_bad_argument};
-ghost use Rattle.uw_rules.specs.CheckSteps.{failing, IsShortText};
+ghost use Rattle.uw_rules.specs.CheckSteps.{failing, IsShortText, names_seen};
 ghost use Rattle.uw_rules.specs.LabelSteps.{label_place};
 ghost use Rattle.uw_rules.specs.Grammar.{action_of};
 ghost use Rattle.uw_rules.specs.GrammarSteps.{shape_seen};
@@ -13,53 +13,58 @@ ghost use Rattle.uw_rules.specs.WrittenSteps.{AreShort, IsShortPhrase, IsShortTe
 
 use crate::RuleKind;
 use crate::arguments::{has_stray, second_half};
-use crate::checks::{Check, is_label};
-use crate::grammar::{Shape, TextKind, action_of, condition_of};
+use crate::checks::{Check, Names, is_label};
+use crate::grammar::{Shape, Table, TextKind, action_of, condition_of};
 use crate::labels::Labels;
 use crate::written::{Phrase, WrittenRule, WrittenTest};
-use uw_base::Bytes;
+use std::alloc::Global;
+use uw_base::Memory;
 
 /// The most rules of a table.
 pub const MOST_RULES: usize = 4_096;
 
-/// What the rules of a table may name: the labels of the table, and the caches.
+/// What the rules of a table may name: the labels of the table, the caches and the areas.
 #[derive(Drop)]
 pub struct Site<'a> {
     pub labels: Labels<'a>,
-    pub names: &'a [Bytes],
+    pub names: Names<'a>,
 }
 
 // Whether the argument is bad.
 #[tactic(auto, unfolding(crate::specs::Arguments::is_bad_argument))]
-fn is_bad_argument(shape: Shape, argument: Option<&[u8]>) -> bool
+fn is_bad_argument(alloc: Global, shape: Shape, argument: Option<&[u8]>) -> Result<bool, Memory>
     requires { IsShortText (option_copied argument) }
-    ensures { result ≡ is_bad_argument (shape_seen shape) (option_copied argument.entry) }
+    ensures { IfOk result (λ bad. bad ≡ is_bad_argument (shape_seen shape) (option_copied argument.entry)) }
 {
-    has_stray(shape, argument) || Check::Kind.fails_any(shape, argument)
+    if has_stray(alloc, shape, argument)? {
+        return Ok(true);
+    }
+    Ok(Check::Kind.fails_any(shape, argument))
 }
 
 // Whether the condition has a bad argument.
-fn is_bad_test(test: WrittenTest<'_>) -> bool
+fn is_bad_test(alloc: Global, test: WrittenTest<'_>) -> Result<bool, Memory>
     requires { IsShortTest (test_seen test) }
-    ensures { result ≡ is_bad_test (test_seen test.entry) }
+    ensures { IfOk result (λ bad. bad ≡ is_bad_test (test_seen test.entry)) }
 {
     let WrittenTest::Holding { condition, .. } = test else {
-        return false;
+        return Ok(false);
     };
     match condition_of(condition.name) {
-        Some((_, shape)) => is_bad_argument(shape, condition.argument),
-        None => false,
+        Some((_, shape)) => is_bad_argument(alloc, shape, condition.argument),
+        None => Ok(false),
     }
 }
 
 // Whether the action has a bad argument.
-fn is_bad_action(action: Phrase<'_>) -> bool
+fn is_bad_action(alloc: Global, table: Table, action: Phrase<'_>) -> Result<bool, Memory>
     requires { IsShortPhrase (phrase_seen action) }
-    ensures { result ≡ is_bad_phrase (action_of (phrase_seen action.entry).name) (phrase_seen action.entry).argument }
+    ensures { IfOk result (λ bad. bad
+        ≡ is_bad_phrase (action_of table (phrase_seen action.entry).name) (phrase_seen action.entry).argument) }
 {
-    match action_of(action.name) {
-        Some((_, shape)) => is_bad_argument(shape, action.argument),
-        None => false,
+    match action_of(table, action.name) {
+        Some((_, shape)) => is_bad_argument(alloc, shape, action.argument),
+        None => Ok(false),
     }
 }
 
@@ -78,11 +83,12 @@ fn any_text_of_test(check: Check<'_>, test: WrittenTest<'_>) -> bool
 }
 
 // Whether a text of the action is one that is looked for.
-fn any_text_of_action(check: Check<'_>, action: Phrase<'_>) -> bool
+fn any_text_of_action(check: Check<'_>, table: Table, action: Phrase<'_>) -> bool
     requires { IsShortPhrase (phrase_seen action) }
-    ensures { result ≡ any_place (failing check.entry) (action_of (phrase_seen action.entry).name) (phrase_seen action.entry).argument }
+    ensures { result
+        ≡ any_place (failing check.entry) (action_of table (phrase_seen action.entry).name) (phrase_seen action.entry).argument }
 {
-    match action_of(action.name) {
+    match action_of(table, action.name) {
         Some((_, shape)) => check.fails_any(shape, action.argument),
         None => false,
     }
@@ -95,22 +101,33 @@ fn any_text(check: Check<'_>, rule: WrittenRule<'_>) -> bool
 {
     match rule {
         WrittenRule::Unparted | WrittenRule::Label(_) => false,
-        WrittenRule::Rule { test, action } => {
-            any_text_of_test(check, test) || any_text_of_action(check, action)
-        }
+        WrittenRule::Rule {
+            table,
+            test,
+            action,
+        } => any_text_of_test(check, test) || any_text_of_action(check, table, action),
     }
 }
 
 // Whether a space or an argument is missing, an argument stands where there is none, or a label or an argument is bad.
 #[tactic(auto, unfolding(crate::specs::Rules::is_bad_rule))]
-fn is_bad_rule(rule: WrittenRule<'_>) -> bool
+fn is_bad_rule(alloc: Global, rule: WrittenRule<'_>) -> Result<bool, Memory>
     requires { AreShort (written_seen rule) }
-    ensures { result ≡ is_bad_rule (written_seen rule.entry) }
+    ensures { IfOk result (λ bad. bad ≡ is_bad_rule (written_seen rule.entry)) }
 {
     match rule {
-        WrittenRule::Unparted => true,
-        WrittenRule::Label(text) => !is_label(text),
-        WrittenRule::Rule { test, action } => is_bad_test(test) || is_bad_action(action),
+        WrittenRule::Unparted => Ok(true),
+        WrittenRule::Label(text) => Ok(!is_label(text)),
+        WrittenRule::Rule {
+            table,
+            test,
+            action,
+        } => {
+            if is_bad_test(alloc, test)? {
+                return Ok(true);
+            }
+            is_bad_action(alloc, table, action)
+        }
     }
 }
 
@@ -134,7 +151,7 @@ fn has_unknown_action(rule: WrittenRule<'_>) -> bool
     ensures { result ≡ has_unknown_action (written_seen rule.entry) }
 {
     match rule {
-        WrittenRule::Rule { action, .. } => action_of(action.name).is_none(),
+        WrittenRule::Rule { table, action, .. } => action_of(table, action.name).is_none(),
         _ => false,
     }
 }
@@ -198,36 +215,40 @@ fn misses_label(labels: &Labels<'_>, here: usize, rule: WrittenRule<'_>) -> bool
     any_text(Check::Label { labels, here }, rule)
 }
 
-// Whether the rule names a cache that there is not, or asks one where there is none.
+// Whether the rule names a cache or an area that there is not, or asks a cache where there is none.
 #[tactic(auto, unfolding(crate::specs::Rules::has_unknown_name))]
-fn has_unknown_name(names: &[Bytes], rule: WrittenRule<'_>) -> bool
+fn has_unknown_name(names: Names<'_>, rule: WrittenRule<'_>) -> bool
     requires { AreShort (written_seen rule) }
-    ensures { result ≡ has_unknown_name names.now (written_seen rule.entry) }
+    ensures { result ≡ has_unknown_name (names_seen names.entry) (written_seen rule.entry) }
 {
     any_text(Check::Name(names), rule)
 }
 
 /// Why a rule is refused before its pattern is looked at.
-pub fn early_refusal(here: usize, rule: WrittenRule<'_>) -> Option<RuleKind>
+pub fn early_refusal(
+    alloc: Global,
+    here: usize,
+    rule: WrittenRule<'_>,
+) -> Result<Option<RuleKind>, Memory>
     requires { AreShort (written_seen rule) }
-    ensures { result ≡ early_refusal here (written_seen rule.entry) }
+    ensures { IfOk result (λ kind. kind ≡ early_refusal here (written_seen rule.entry)) }
 {
     if MOST_RULES <= here {
-        return Some(RuleKind::TooManyRules);
+        return Ok(Some(RuleKind::TooManyRules));
     }
-    if is_bad_rule(rule) {
-        return Some(RuleKind::BadRule);
+    if is_bad_rule(alloc, rule)? {
+        return Ok(Some(RuleKind::BadRule));
     }
     if has_unknown_condition(rule) {
-        return Some(RuleKind::UnknownCondition);
+        return Ok(Some(RuleKind::UnknownCondition));
     }
-    None
+    Ok(None)
 }
 
 /// Why a rule is refused behind its pattern.
 pub fn late_refusal(site: &Site<'_>, here: usize, rule: WrittenRule<'_>) -> Option<RuleKind>
     requires { AreShort (written_seen rule) }
-    ensures { result ≡ late_refusal site.now.names.now (label_place site.now.labels) here (written_seen rule.entry) }
+    ensures { result ≡ late_refusal (names_seen site.now.names) (label_place site.now.labels) here (written_seen rule.entry) }
 {
     if has_unknown_action(rule) {
         return Some(RuleKind::UnknownAction);

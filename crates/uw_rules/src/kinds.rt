@@ -13,6 +13,7 @@ pub enum RuleKind {
     /// The maker of patterns refused the pattern.
     PatternRefused,
     UnknownCondition,
+    /// The action's name is unknown in its table.
     UnknownAction,
     /// An earlier line has the label.
     LabelTwice,
@@ -22,7 +23,7 @@ pub enum RuleKind {
     BadTemplate,
     /// The table has more lines than 4,096.
     TooManyRules,
-    /// The rule names a cache that there is not, or asks one where there is none.
+    /// The rule names a cache or an area that there is not, or asks a cache where there is none.
     UnknownName,
 }
 

@@ -1,6 +1,7 @@
 //! Rules: what a table of lines says, compiled, or its first refused line.
 #![tactic(auto)]
 
+mod area_actions;
 mod arguments;
 mod checks;
 pub mod compiled;
@@ -14,11 +15,13 @@ mod lines;
 pub mod patterns;
 mod reading;
 pub mod regex_patterns;
+mod task_actions;
+mod texts;
 mod weight;
 mod written;
 
-pub use compiled::{Action, Condition, Rule, RuleTable, Test};
-pub use grammar::{Subject, is_rule_option};
+pub use compiled::{Action, AreaStep, Condition, Rule, RuleTable, TaskPair, TaskPairs, Test};
+pub use grammar::{Subject, Table, is_rule_option, table_of_option};
 pub use kinds::{RuleKind, RulesError};
 pub use lines::{RuleLine, RuleLineList};
 pub use patterns::{Built, Patterns};

@@ -3,14 +3,16 @@ ghost use Rattle.std.specs.Prelude.{◌≡◌, ◌<◌, ◌≤◌, ◌^◌, ℕ,
 ghost use Rattle.std.specs.Option.{option_copied};
 ghost use Rattle.std.specs.Str.{IsUtf8};
 ghost use Rattle.uw_outside.specs.Faults.{HasCause};
-ghost use Rattle.uw_rules.specs.CacheNumbers.{AskCachesBelow};
+ghost use Rattle.uw_rules.specs.CheckSteps.{names_seen};
 ghost use Rattle.uw_rules.specs.Compiled.{rules_of};
 ghost use Rattle.uw_rules.specs.LabelSteps.{label_place};
+ghost use Rattle.uw_rules.specs.PartNumbers.{AskPartsBelow};
 ghost use Rattle.uw_rules.specs.Rules.{pattern_of_rule, place_of_label};
 ghost use Rattle.uw_rules.specs.Tables.{AreRuleLines, ReadsRules, tells_of_maker};
 ghost use Rattle.uw_rules.specs.TableSteps.{GivesPattern, GivesPatternIfAny, GivesRule, error_of, is_step_of_maker};
 ghost use Rattle.uw_rules.specs.WrittenSteps.{AreShort, written_seen};
 
+use crate::checks::Names;
 use crate::compiled::{Rule, RuleTable};
 use crate::compiling::rule_meant;
 use crate::judging::{Site, early_refusal, late_refusal, pattern_of};
@@ -69,14 +71,15 @@ fn read_rule<M: Patterns>(
     rule: WrittenRule<'_>,
     make: &mut M,
 ) -> Result<Rule, Refusal>
-    requires names { length site.now.names.now < 2 ^ 32 }
+    requires names { length site.now.names.caches.now < 2 ^ 32 }
+    requires areas { site.now.names.areas < 2 ^ 32 }
     requires short { AreShort (written_seen rule) }
     requires text { IfSome (pattern_of_rule (written_seen rule)) IsUtf8 }
-    ensures gives { GivesRule site.now.names.now (label_place site.now.labels) here (M.faults make.old) (M.faults make.new)
+    ensures gives { GivesRule (names_seen site.now.names) (label_place site.now.labels) here (M.faults make.old) (M.faults make.new)
         (written_seen rule.entry) result }
     ensures cause { HasCause (M.faults make.old) (M.faults make.new) (is_step_of_maker result) }
 {
-    if let Some(kind) = early_refusal(here, rule) {
+    if let Some(kind) = early_refusal(alloc, here, rule)? {
         return Err(Refusal::Refused(kind));
     }
     let pattern = match built_if_any(alloc, pattern_of(rule), make) {
@@ -112,10 +115,11 @@ fn read_lines<M: Patterns>(
     lines: &[RuleLine],
     make: &mut M,
 ) -> Result<RuleTable, RulesError>
-    requires names { length site.now.names.now < 2 ^ 32 }
+    requires names { length site.now.names.caches.now < 2 ^ 32 }
+    requires areas { site.now.names.areas < 2 ^ 32 }
     requires lines { AreRuleLines lines.now }
     requires labels { (text : List ℕ) → label_place site.now.labels text ≡ place_of_label lines.now text }
-    ensures reads { ReadsRules site.now.names.now lines.now (M.faults make.old) (M.faults make.new) result }
+    ensures reads { ReadsRules (names_seen site.now.names) lines.now (M.faults make.old) (M.faults make.new) result }
     ensures cause { HasCause (M.faults make.old) (M.faults make.new) (tells_of_maker result) }
 {
     let mut table = RuleTable::new(alloc);
@@ -131,24 +135,27 @@ fn read_lines<M: Patterns>(
 
 /// What a table of rules says: its rules, compiled; or its first refused line. The caches have these names, by whose
 /// places they are numbered, and there are so many shared areas. Each number of a cache in the rules is below the number
-/// of names, and a rule that asks the first cache stands only where there is one. `PatternRefused` just where the maker
-/// refused a pattern and counted that.
+/// of names, each number of an area below that of areas, and a rule that asks the first cache stands only where there is
+/// one. `PatternRefused` just where the maker refused a pattern and counted that.
 pub fn read_rules<M: Patterns>(
     alloc: Global,
     lines: &RuleLineList,
     names: &BytesList,
-    _areas: u32,
+    areas: u32,
     make: &mut M,
 ) -> Result<RuleTable, RulesError>
     requires lines { AreRuleLines lines.now }
     requires names { length names.now < 2 ^ 32 }
-    ensures reads { ReadsRules names.now lines.now (M.faults make.old) (M.faults make.new) result }
+    ensures reads { ReadsRules (record { caches = names.now; areas = areas }) lines.now (M.faults make.old) (M.faults make.new) result }
     ensures cause { HasCause (M.faults make.old) (M.faults make.new) (tells_of_maker result) }
-    ensures caches { IfOk result (λ table. AskCachesBelow (length names.now) (rules_of table)) }
+    ensures parts { IfOk result (λ table. AskPartsBelow (record { caches = length names.now; areas = areas }) (rules_of table)) }
 {
     let site = Site {
         labels: labels_of(alloc, lines.as_slice())?,
-        names: names.as_slice(),
+        names: Names {
+            caches: names.as_slice(),
+            areas,
+        },
     };
     read_lines(alloc, &site, lines.as_slice(), make)
 }

@@ -4,7 +4,7 @@ ghost use Rattle.uw_rules.specs.Tables.{AreRuleLines, IsRuleLine};
 
 use crate::grammar::kind_of_line;
 use crate::{
-    Action, Condition, RegexPatterns, Rule, RuleKind, RuleLine, RuleLineList, RuleTable,
+    Action, AreaStep, Condition, RegexPatterns, Rule, RuleKind, RuleLine, RuleLineList, RuleTable,
     RulesError, Test, read_rules,
 };
 use std::alloc::Global;
@@ -12,7 +12,7 @@ use std::process::Abort;
 use std::str;
 use std::test::Fail;
 use uw_base::{Bytes, BytesList, Memory};
-use uw_model::MathOp;
+use uw_model::{MathOp, Width};
 use uw_subst::Template;
 
 // Whether this may be a line of a table.
@@ -58,7 +58,7 @@ fn lines(alloc: Global, rows: &[(&[u8], &[u8])]) -> Result<RuleLineList, Memory>
     Ok(lines)
 }
 
-// What lines say where there are the caches `a` and `b`, under a maker that refuses the calls with these numbers.
+// What lines say where there are caches of these names and 16 areas, under a maker that refuses the calls with these numbers.
 fn read(
     rt: &impl Abort,
     alloc: Global,
@@ -79,7 +79,7 @@ fn read(
             Err(_) => return Err(RulesError::Memory),
         }
     }
-    read_rules(alloc, lines, &list, 0, &mut RegexPatterns::new(refused))
+    read_rules(alloc, lines, &list, 16, &mut RegexPatterns::new(refused))
 }
 
 // The refused line and its kind, if there is one.
@@ -111,8 +111,7 @@ fn kind(
     }
 }
 
-const TAKEN: [(&[u8], &[u8]); 58] = [
-    (b"route", b"^/a continue"),
+const TAKEN: [(&[u8], &[u8]); 43] = [
     (b"route", b" continue"),
     (b"route", b"^/old/(.*)$ redirect-permanent:/new/$1"),
     (b"route", b"^/a \t last"),
@@ -123,33 +122,25 @@ const TAKEN: [(&[u8], &[u8]); 58] = [
     (b"route-uri", b"\\?q= break:410 Gone"),
     (b"route-qs", b"(^|&)p=(\\d+) rewrite:/p/$2?x=${qs[x]}"),
     (b"route-remote-addr", b"^10\\. return:403"),
-    (b"route-run", b"continue"),
     (b"route-run", b"last"),
     (b"route-run", b"break"),
     (b"route-run", b"break:"),
     (b"route-run", b"break:a:b, c=d"),
-    (b"route-run", b"return:200"),
     (b"route-run", b"return:0200"),
     (b"route-run", b"return:503"),
     (b"route-run", b"redirect:"),
-    (b"route-run", b"redirect:/a?b=c,d;e"),
-    (b"route-run", b"addvar:K=T"),
     (b"route-run", b"addvar:K=a=b,c=d"),
     (b"route-run", b"addvar:=T"),
-    (b"route-run", b"addvar:K="),
     (b"route-run", b"addheader:X: ${time[unix]}"),
     (b"route-run", b"addheader::"),
     (b"route-run", b"send:"),
     (b"route-run", b"send:a:b;c,d=e $ $0 ${v}"),
-    (b"route-run", b"send:\xc3\xa9"),
-    (b"route-run", b"cache:key=k"),
     (
         b"route-run",
         b"cache:name=b,content_type=text/${x},key=${y}",
     ),
     (b"route-run", b"cachevar:var=v,key=k"),
     (b"route-run", b"cachevar:var=,key=,name=a"),
-    (b"route-run", b"cacheset:key=k,value=v"),
     (
         b"route-run",
         b"cacheset:key=k,value=v,expires=18446744073709551615,name=a,var=x",
@@ -157,19 +148,15 @@ const TAKEN: [(&[u8], &[u8]); 58] = [
     (b"route-run", b"cacheset:value=a=b,key==k="),
     (b"route-run", b"cacheupdate:key=k,value=v,expires=0"),
     (b"route-run", b"cachedel:key=k,name=a,var=v"),
-    (b"route-run", b"cacheinc:key=k"),
     (b"route-run", b"cachedec:key=k,amount=-9223372036854775808"),
     (b"route-run", b"cachemul:key=k,amount=00002,expires=7"),
     (b"route-run", b"cachediv:key=k,amount=0,var=v"),
-    (b"route-if", b"equal:a;b continue"),
     (b"route-if", b"equal:a; continue"),
     (b"route-if", b"equal:;; continue"),
     (b"route-if", b"equal:${a};$1;c continue"),
     (b"route-if-not", b"startswith:${HTTP_HOST};www. continue"),
     (b"route-if", b"endswith:a;b continue"),
-    (b"route-if", b"contains:a;b continue"),
     (b"route-if", b"empty:${QUERY_STRING} continue"),
-    (b"route-if", b"empty: continue"),
     (b"route-if", b"empty:a,b=c continue"),
     (
         b"route-if",
@@ -178,18 +165,45 @@ const TAKEN: [(&[u8], &[u8]); 58] = [
     (b"route-if", b"regexp:;a;b continue"),
     (b"route-if", b"incache:key=${PATH_INFO},name=b cache:key=x"),
     (b"route-if", b"incache:name=a,key=a;b continue"),
-    (b"route-label", b"a"),
     (b"route-label", b"\xc3\xa9;,=:\t"),
     (
         b"route-label",
         b"0123456789012345678901234567890123456789012345678901234567890123",
     ),
-    (b"route-if", b"equal:\xc3\xa9;\xc3\xa9 send:\xc3\xa9"),
+];
+
+const PARTS_TAKEN: [(&[u8], &[u8]); 19] = [
+    (
+        b"route-run",
+        b"arearead:area=15,at=18446744073709551615,len=65536,var=v",
+    ),
+    (b"spool-run", b"arearead:var=,len=0,at=0,area=0"),
+    (b"route-run", b"areawrite:area=0,at=0,value=${x}"),
+    (b"route-run", b"areawrite:area=0,at=0,value=,var=v"),
+    (b"route-run", b"areanum:area=0,at=0,width=8,var=v"),
+    (b"route-run", b"areanum:area=0,at=0,width=064,var=v"),
+    (
+        b"route-run",
+        b"areaset:area=0,at=0,width=16,value=18446744073709551615",
+    ),
+    (b"spool-run", b"areainc:area=0,at=0,width=32,by=0"),
+    (b"route-run", b"areainc:area=1,at=8,width=64"),
+    (b"route-run", b"areadec:area=0,at=0,width=8,by=3,var=v"),
+    (b"route-run", b"areaupdates:area=0,var=v"),
+    (b"route-run", b"spool:a=b"),
+    (b"spool-run", b"spool:body=${b},a=,=x,b=c=d"),
+    (b"spool-run", b"spool-end:-2"),
+    (b"spool-if", b"empty:${x} spool-end:0"),
+    (b"spool-if-not", b"equal:a;b continue"),
+    (b"spool-label", b"a"),
+    (b"spool-run", b"rewrite:/x"),
+    (b"spool-run", b"cacheset:key=k,value=v"),
 ];
 
 #[test]
 fn each_form_is_taken(rt: HostRuntime) -> Result<(), Fail> {
     expect(&rt, rt.alloc(), &TAKEN, None)?;
+    expect(&rt, rt.alloc(), &PARTS_TAKEN, None)?;
     Ok(())
 }
 
@@ -273,6 +287,37 @@ const BAD_PAIRS: [(&[u8], &[u8]); 24] = [
     (b"route-run", b"cacheinc:key=k,by=1"),
 ];
 
+const BAD_PARTS: [(&[u8], &[u8]); 25] = [
+    (b"route-run", b"arearead:area=0,at=0,len=65537,var=v"),
+    (b"route-run", b"arearead:area=0,at=0,len=1"),
+    (b"route-run", b"arearead:area=0,len=1,var=v"),
+    (b"route-run", b"arearead:area=,at=0,len=1,var=v"),
+    (
+        b"route-run",
+        b"arearead:area=0,at=18446744073709551616,len=1,var=v",
+    ),
+    (b"route-run", b"areawrite:area=0,at=0"),
+    (b"route-run", b"areawrite:area=0,at=x,value=v"),
+    (b"route-run", b"areanum:area=0,at=0,width=7,var=v"),
+    (b"route-run", b"areanum:area=0,at=0,width=24,var=v"),
+    (b"route-run", b"areanum:area=0,at=0,width=8"),
+    (b"route-run", b"areaset:area=0,at=0,width=8,value=-1"),
+    (b"route-run", b"areaset:area=0,at=0,width=8,by=1"),
+    (b"route-run", b"areainc:area=0,at=0,width=8,by="),
+    (b"route-run", b"areainc:area=0,at=0,at=0,width=8"),
+    (b"route-run", b"areadec:area=0,at=0,width=8,value=1"),
+    (b"route-run", b"areaupdates:area=0"),
+    (b"route-run", b"spool"),
+    (b"route-run", b"spool:"),
+    (b"route-run", b"spool:a"),
+    (b"route-run", b"spool:a=b,"),
+    (b"route-run", b"spool:a=b,c=d,a=e"),
+    (b"spool-run", b"spool-end"),
+    (b"spool-run", b"spool-end:x"),
+    (b"spool-run", b"spool-end:9223372036854775808"),
+    (b"spool-label", b"a b"),
+];
+
 const UNKNOWN_CONDITIONS: [(&[u8], &[u8]); 5] = [
     (b"route-if", b"nothing continue"),
     (b"route-if", b" continue"),
@@ -289,18 +334,23 @@ const BAD_PATTERNS: [(&[u8], &[u8]); 3] = [
 
 const REFUSED_PATTERNS: [(&[u8], &[u8]); 1] = [(b"route", b"(a{1000}){1000} continue")];
 
-const UNKNOWN_ACTIONS: [(&[u8], &[u8]); 8] = [
+const UNKNOWN_ACTIONS: [(&[u8], &[u8]); 13] = [
     (b"route", b"^/a "),
     (b"route", b"^/a :x"),
     (b"route-run", b""),
     (b"route-run", b"CONTINUE"),
-    (b"route-run", b"spool:a=b"),
     (b"route-run", b"spool-end:0"),
-    (b"route-run", b"arearead:area=0,at=0,len=1,var=v"),
     (b"route-if", b"empty:${ nothing"),
+    (b"spool-run", b"return:999"),
+    (b"spool-run", b"send:${"),
+    (b"spool-run", b"break"),
+    (b"spool-run", b"redirect:/"),
+    (b"spool-run", b"redirect-permanent:/"),
+    (b"spool-run", b"addheader:X"),
+    (b"spool-run", b"cache:key=k"),
 ];
 
-const BAD_TEMPLATES: [(&[u8], &[u8]); 7] = [
+const BAD_TEMPLATES: [(&[u8], &[u8]); 9] = [
     (b"route-run", b"send:${"),
     (b"route-run", b"addheader:X: ${}"),
     (b"route-run", b"addvar:${=${a]}"),
@@ -308,6 +358,8 @@ const BAD_TEMPLATES: [(&[u8], &[u8]); 7] = [
     (b"route-if", b"empty:${x[y]} continue"),
     (b"route-if", b"regexp:${;a continue"),
     (b"route-if", b"equal:a;${httptime[x]} goto:x"),
+    (b"route-run", b"areawrite:area=16,at=0,value=${"),
+    (b"spool-run", b"spool:a=b,c=${"),
 ];
 
 const LABELS_NOT_AHEAD: [(&[u8], &[u8]); 2] = [
@@ -315,10 +367,15 @@ const LABELS_NOT_AHEAD: [(&[u8], &[u8]); 2] = [
     (b"route-if", b"incache:key=k,name=c goto:x"),
 ];
 
-const UNKNOWN_NAMES: [(&[u8], &[u8]); 3] = [
+const UNKNOWN_NAMES: [(&[u8], &[u8]); 5] = [
     (b"route-if", b"incache:key=k,name=c continue"),
     (b"route-run", b"cache:key=k,name="),
     (b"route-run", b"cachedel:key=k,name=A"),
+    (b"route-run", b"areaupdates:area=16,var=v"),
+    (
+        b"spool-run",
+        b"areawrite:area=18446744073709551615,at=0,value=",
+    ),
 ];
 
 // Whether each line has this refusal, or none, alone in its table.
@@ -340,6 +397,7 @@ fn a_bad_rule_comes_before_all_others(rt: HostRuntime) -> Result<(), Fail> {
     expect(&rt, rt.alloc(), &BAD_TESTS, bad)?;
     expect(&rt, rt.alloc(), &BAD_ACTIONS, bad)?;
     expect(&rt, rt.alloc(), &BAD_PAIRS, bad)?;
+    expect(&rt, rt.alloc(), &BAD_PARTS, bad)?;
     Ok(())
 }
 
@@ -642,6 +700,60 @@ fn rules_name_subjects_caches_and_rules(rt: HostRuntime) -> Result<(), Fail> {
             assert_eq!(rt; fixed(value), b"a=b,c".as_slice());
         }
         _ => panic!(rt; "a variable"),
+    }
+    Ok(())
+}
+
+#[test]
+fn rules_of_tasks_name_areas_and_variables(rt: HostRuntime) -> Result<(), Fail> {
+    let lines = lines(
+        rt.alloc(),
+        &[
+            (b"spool-run", b"areainc:area=3,at=8,width=16,var=n"),
+            (b"spool-run", b"spool:a=b=c,=d"),
+            (b"spool-run", b"spool-end:-2"),
+        ],
+    )?;
+    let table = read(&rt, rt.alloc(), &lines, &[], &[])?;
+    let [count, spool, end] = table.as_slice() else {
+        panic!(rt; "three rules");
+    };
+    let counted = AreaStep::IncNum {
+        at: 8,
+        width: Width::W16,
+        by: 1,
+    };
+    match count {
+        Rule::Act {
+            action: Action::Area { area, step, .. },
+            ..
+        } => {
+            assert_eq!(rt; *area, 3);
+            assert_eq!(rt; *step, counted);
+        }
+        _ => panic!(rt; "an area"),
+    }
+    match spool {
+        Rule::Act {
+            action: Action::Spool { pairs },
+            ..
+        } => {
+            let [first, last] = pairs.as_slice() else {
+                panic!(rt; "two variables");
+            };
+            assert_eq!(rt; first.key.as_slice(), b"a".as_slice());
+            assert_eq!(rt; fixed(&first.value), b"b=c".as_slice());
+            assert_eq!(rt; last.key.as_slice(), b"".as_slice());
+            assert_eq!(rt; fixed(&last.value), b"d".as_slice());
+        }
+        _ => panic!(rt; "a task"),
+    }
+    match end {
+        Rule::Act {
+            action: Action::SpoolEnd { status },
+            ..
+        } => assert_eq!(rt; *status, -2),
+        _ => panic!(rt; "the end of a task"),
     }
     Ok(())
 }

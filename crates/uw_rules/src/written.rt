@@ -4,7 +4,7 @@ ghost use Rattle.uw_rules.specs.WrittenRules.{phrase_of, rule_of_line, written_a
 ghost use Rattle.uw_rules.specs.declared.grammar.LineKind.TheVariants as kinds;
 ghost use Rattle.uw_rules.specs.WrittenSteps.{parted_seen, phrase_seen, written_seen};
 
-use crate::grammar::{LineKind, Subject, kind_of_line};
+use crate::grammar::{LineKind, Subject, Table, kind_of_line};
 use crate::lines::RuleLine;
 use uw_base::texts::{cut, without_front};
 
@@ -37,7 +37,9 @@ pub enum WrittenRule<'a> {
     /// A line without the space that parts a test from its action.
     Unparted,
     Label(&'a [u8]),
+    /// A rule of a table.
     Rule {
+        table: Table,
         test: WrittenTest<'a>,
         action: Phrase<'a>,
     },
@@ -61,11 +63,12 @@ fn parted(text: &[u8]) -> Option<(&[u8], Phrase<'_>)>
 }
 
 // A rule with a pattern.
-fn with_pattern(subject: Subject, text: &[u8]) -> WrittenRule<'_>
-    ensures { written_seen result ≡ written_as (Some (kinds.Pattern subject)) text.now }
+fn with_pattern(table: Table, subject: Subject, text: &[u8]) -> WrittenRule<'_>
+    ensures { written_seen result ≡ written_as (Some (table, kinds.Pattern subject)) text.now }
 {
     match parted(text) {
         Some((pattern, action)) => WrittenRule::Rule {
+            table,
             test: WrittenTest::Matching { subject, pattern },
             action,
         },
@@ -74,11 +77,12 @@ fn with_pattern(subject: Subject, text: &[u8]) -> WrittenRule<'_>
 }
 
 // A rule with a condition.
-fn with_condition(negated: bool, text: &[u8]) -> WrittenRule<'_>
-    ensures { written_seen result ≡ written_as (Some (kinds.Condition negated)) text.now }
+fn with_condition(table: Table, negated: bool, text: &[u8]) -> WrittenRule<'_>
+    ensures { written_seen result ≡ written_as (Some (table, kinds.Condition negated)) text.now }
 {
     match parted(text) {
         Some((condition, action)) => WrittenRule::Rule {
+            table,
             test: WrittenTest::Holding {
                 negated,
                 condition: phrase_of(condition),
@@ -89,18 +93,19 @@ fn with_condition(negated: bool, text: &[u8]) -> WrittenRule<'_>
     }
 }
 
-// A rule by the kind of its line.
-fn written_as(kind: Option<LineKind>, text: &[u8]) -> WrittenRule<'_>
+// A rule by its table and the kind of its line.
+fn written_as(kind: Option<(Table, LineKind)>, text: &[u8]) -> WrittenRule<'_>
     ensures { written_seen result ≡ written_as kind text.now }
 {
     match kind {
-        Some(LineKind::Pattern(subject)) => with_pattern(subject, text),
-        Some(LineKind::Always) => WrittenRule::Rule {
+        Some((table, LineKind::Pattern(subject))) => with_pattern(table, subject, text),
+        Some((table, LineKind::Always)) => WrittenRule::Rule {
+            table,
             test: WrittenTest::Always,
             action: phrase_of(text),
         },
-        Some(LineKind::Condition { negated }) => with_condition(negated, text),
-        Some(LineKind::Label) => WrittenRule::Label(text),
+        Some((table, LineKind::Condition { negated })) => with_condition(table, negated, text),
+        Some((_, LineKind::Label)) => WrittenRule::Label(text),
         None => WrittenRule::Unparted,
     }
 }

@@ -1,6 +1,7 @@
 use Rattle.std.proofs.Common.{refl, sym, subst, ◌∙◌, IfSome, arith}
 use Rattle.std.specs.Str.{IsUtf8}
 use Rattle.uw_rules.specs.WrittenRules.{WrittenRule}
+use Rattle.uw_rules.specs.CheckSteps.{names_seen}
 use Rattle.uw_rules.specs.Rules.{pattern_of_rule}
 use Rattle.uw_rules.specs.Tables.{IsRuleLine}
 use Rattle.uw_rules.specs.WrittenSteps.{AreShort}
@@ -27,7 +28,7 @@ returns-in-Err-clause-reads g c =
     let before = g.M.Patterns.faults c.loop-here.make in
     let after = g.M.Patterns.faults c.read_rule.new.make in
     rw c.refused_line.ensures
-    (refused site.names.now (label_place site.labels) c.args.lines.now c.loop-here.here (g.M.Patterns.faults c.args.make.now) before after c.index-lines-here.result _
+    (refused (names_seen site.names) (label_place site.labels) c.args.lines.now c.loop-here.here (g.M.Patterns.faults c.args.make.now) before after c.index-lines-here.result _
     c.in-Err.refusal c.requires.labels (omega arith) c.index-lines-here.is c.written.ensures (omega (arith, c.loop-here.invariant.kept)) c.in-Err.ensures.gives
     c.loop-here.invariant.so_far.earlier)
 
@@ -38,7 +39,7 @@ loop-here-preserved g c =
     let after = g.M.Patterns.faults c.read_rule.new.make in
     record {
       so_far =
-          taken site.names.now (label_place site.labels) c.args.lines.now c.loop-here.here before after c.index-lines-here.result _ _ _ c.in-Ok.rule
+          taken (names_seen site.names) (label_place site.labels) c.args.lines.now c.loop-here.here before after c.index-lines-here.result _ _ _ c.in-Ok.rule
           c.requires.labels (omega arith) c.index-lines-here.is c.written.ensures c.in-Ok.ensures.gives c.loop-here.invariant.so_far c.in_ok-push-in-Ok.ensures.ok;
       kept = c.in-Ok.ensures.cause.kept refl ∙ c.loop-here.invariant.kept;
     }
