@@ -1,5 +1,5 @@
 -- What the actions of rules come to.
-use Rattle.std.proofs.Common.{◌≡◌, ◌↔◌, ◌≤◌, refl, sym, ◌∙◌, ℕ, length, Bool, true, false, List, [], ◌∷◌, ◌++◌, Option, None, Some, Ok, Err, inl, IsTrue, nat_le}
+use Rattle.std.proofs.Common.{◌≡◌, ◌↔◌, ◌≤◌, refl, sym, subst, ◌∙◌, ℕ, length, Bool, true, false, List, [], ◌∷◌, ◌++◌, Option, None, Some, IfSome, Ok, Err, inl, IsTrue, nat_le}
 use Rattle.std.specs.Prelude.{codes, ◌==◌}
 use Rattle.std.specs.List.{before_first, after_first, list_any}
 use Rattle.std.proofs.lemmas.Bool.{false≢true, leb-true, le-leb}
@@ -13,22 +13,21 @@ use Rattle.uw_subst.specs.Answers.{most_filled}
 use Rattle.uw_chain.specs.declared.faults.ChainEnd.TheVariants as chains
 use Rattle.uw_chain.specs.declared.outcome.Outcome.{Outcome}
 use Rattle.uw_chain.specs.declared.outcome.Outcome.TheVariants as outcomes
-use Rattle.uw_chain.specs.declared.outcome.RouteEnd.{RouteEnd}
+use Rattle.uw_chain.specs.declared.outcome.Ending.TheVariants as endings
 use Rattle.uw_chain.specs.declared.request.Request.{Request}
-use Rattle.uw_chain.specs.Actions.{rewritten, with_filled, with_text}
+use Rattle.uw_chain.specs.Actions.{redirected, rewritten, with_filled, with_text}
 use Rattle.uw_chain.specs.Courses.{Course, asking, ended}
-use Rattle.uw_chain.specs.Endings.{end_by_redirect, end_by_value, end_overlong, end_with, end_with_page, with_header}
+use Rattle.uw_chain.specs.Endings.{end_with, end_with_page, with_header, with_cached_value}
 use Rattle.uw_chain.specs.Runs.{AsksOnce}
 use Rattle.uw_chain.specs.RoutingSteps.{RunsTo}
 use Rattle.uw_chain.specs.Tests.{filled_within}
 use Rattle.uw_chain.proofs.CourseLemmas.{Led-one}
 
--- the end by a value, from its parts
-pub ends_by_value : (content_type value line body : List ℕ) (request headed : Request)
+-- a value behind the body, from its parts
+pub has_value : (content_type value line body : List ℕ) (request headed : Request)
     → headed ≡ with_header request line → line ≡ codes "Content-Type: " ++ content_type → body ≡ headed.body ++ value
-    → end_with (codes "200 OK") false (record headed { body = body }) ≡ end_by_value content_type value request
-unfolding end_by_value
-ends_by_value content_type value line body request headed with_line is_line is_body = rw (is_body, with_line, is_line) refl
+    → record headed { body = body } ≡ with_cached_value content_type value request
+has_value content_type value line body request headed with_line is_line is_body = rw (is_body, with_line, is_line) refl
 
 -- the page of a status, from its parts
 pub ends_with_page : (status line body : List ℕ) (request headed : Request) → request.sent ≡ false
@@ -37,12 +36,11 @@ pub ends_with_page : (status line body : List ℕ) (request headed : Request) �
 unfolding end_with_page
 ends_with_page status line body request headed unsent with_line is_line is_body = rw (unsent, is_body, with_line, is_line) refl
 
--- the end by a redirect, from its parts
-pub redirected : (status place line : List ℕ) (text : Option (List ℕ)) (request headed : Request) (ending : RouteEnd)
-    → text ≡ Some place → line ≡ codes "Location: " ++ place → headed ≡ with_header request line → ending ≡ end_with status false headed
-    → with_filled request text (λ to. ended (outcomes.Ends (end_by_redirect status to request))) ≡ ended (outcomes.Ends ending)
-unfolding end_by_redirect
-redirected status place line text request headed ending is_text is_line with_line is_ending = rw (is_text, is_ending, with_line, is_line) refl
+-- a redirect, from its parts
+pub is_redirected : (status place line ending : List ℕ) (text : Option (List ℕ)) (request headed : Request)
+    → text ≡ Some place → line ≡ codes "Location: " ++ place → headed ≡ with_header request line → ending ≡ status
+    → with_filled request text (λ to. ended (redirected status to request)) ≡ ended (outcomes.Ends (endings.Break (Some ending)) headed)
+is_redirected status place line ending text request headed is_text is_line with_line is_ending = rw (is_text, is_ending, with_line, is_line) refl
 
 -- a path without a query
 pub rewritten_plain : (place path : List ℕ) (text : Option (List ℕ)) (request : Request) (vars : List Pair)
@@ -84,10 +82,29 @@ filled_long text vars captures moment fits says is =
     at false e = e
     at true e = absurd (false≢true (sym is ∙ says.1 (leb-true (length (filled text vars captures moment)) most_filled e)))
 
--- a text that is longer than its limit ends the request
-pub sent_long : (text : Option (List ℕ)) (request : Request) (ending : RouteEnd) (use_it : List ℕ → Course Outcome)
-    → text ≡ None → ending ≡ end_overlong request → with_filled request text use_it ≡ ended (outcomes.Ends ending)
-sent_long text request ending use_it is_text is_ending = rw (is_text, is_ending) refl
+-- a text that is longer than its limit ends the rules
+pub sent_long : (text : Option (List ℕ)) (request : Request) (body : List ℕ) (use_it : List ℕ → Course Outcome)
+    → text ≡ None → body ≡ request.body → with_filled request text use_it ≡ ended (outcomes.Ends endings.Failing (record request { body = body }))
+sent_long text request body use_it is_text is_body = rw (is_text, is_body) refl
+
+-- a text that is within its limit has no more bytes than that
+pub filled_few : (template : List ℕ) (vars : List Pair) (captures : List (List ℕ)) (moment : ℕ) (text : List ℕ)
+    → filled_within template vars captures moment ≡ Some text → length text ≤ most_filled
+unfolding filled_within
+filled_few template vars captures moment text is = at (nat_le (length (filled template vars captures moment)) most_filled) refl
+  where
+    at : (test : Bool) → nat_le (length (filled template vars captures moment)) most_filled ≡ test → length text ≤ most_filled
+    at true e =
+        let same : Some (filled template vars captures moment) ≡ Some text = rw e at is in
+        let text_is : filled template vars captures moment ≡ text = cc in
+        subst (λ (l : List ℕ). length l ≤ most_filled) text_is (leb-true (length (filled template vars captures moment)) most_filled e)
+    at false e = let none : None ≡ Some text = rw e at is in absurd (cc)
+
+-- likewise a text that was filled, if there is one
+pub few_filled : (template : List ℕ) (vars : List Pair) (captures : List (List ℕ)) (moment : ℕ) (text : Option (List ℕ))
+    → text ≡ filled_within template vars captures moment → IfSome text (λ one. length one ≤ most_filled)
+few_filled template vars captures moment None is = tt
+few_filled template vars captures moment (Some text) is = filled_few template vars captures moment text (sym is)
 
 -- a text more in the body
 pub sent_more : (more body : List ℕ) (text : Option (List ℕ)) (request : Request)

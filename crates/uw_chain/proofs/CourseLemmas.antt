@@ -2,14 +2,12 @@
 use Rattle.std.proofs.Common.{◌≡◌, inl, inr, refl, sym, ap, ◌∙◌, subst, ℕ, ◌+◌, true, false, List, [], ◌∷◌, ◌++◌, Option, None, Some, Result, Ok, Err, append_assoc, arith}
 use Rattle.std.specs.Option.{option_map}
 use Rattle.std.proofs.lemmas.List.{append-nil, map-append}
-use Rattle.std.proofs.lemmas.List.Elements.{filter-append}
 use Rattle.uw_outside.specs.Lives.{raised, Spends}
 use Rattle.uw_outside.proofs.Lives.{Spends-none}
 use Rattle.uw_model.specs.declared.asks.Ask.{Ask}
 use Rattle.uw_model.specs.declared.asks.AskAnswer.{AskAnswer}
 use Rattle.uw_model.specs.declared.asks.Asked.{Asked}
-use Rattle.uw_model.specs.declared.asks.Ask.TheVariants as asks
-use Rattle.uw_model.specs.Asks.{Asking, answered, Leads, Led, desk_asks}
+use Rattle.uw_model.specs.Asks.{Asking, answered, answered_at, Leads, Led}
 use Rattle.uw_chain.specs.declared.faults.ChainEnd.{ChainEnd}
 use Rattle.uw_chain.specs.declared.faults.ChainEnd.TheVariants as chains
 use Rattle.uw_chain.specs.Courses.{Course, ended, asking, and_then, Unfolds}
@@ -49,17 +47,9 @@ Spends-more before middle now first more early late = early ∙ ap (option_map (
     raised_twice (Some []) = refl
     raised_twice (Some (count ∷ others)) = let e : (count + more) + first ≡ count + (first + more) = omega arith in ap (λ (n : ℕ). Some (n ∷ others)) e
 
--- the asks of a desk add up
-pub desk_asks-append : (moment : ℕ) (early late : List Asked) → desk_asks moment (early ++ late) ≡ desk_asks moment early ++ desk_asks moment late
-desk_asks-append moment early late = simp (filter-append, map-append)
-
--- each ask is one that a desk is asked
-pub desk_asks-one : (moment : ℕ) (one : Asked) → desk_asks moment (one ∷ []) ≡ record { moment = moment; ask = one.ask; end = answered one.answer } ∷ []
-desk_asks-one moment one = of_ask one.ask one.answer
-  where
-    of_ask : (ask : Ask) (answer : AskAnswer)
-        → desk_asks moment (record { ask = ask; answer = answer } ∷ []) ≡ record { moment = moment; ask = ask; end = answered answer } ∷ []
-    of_ask (asks.Cache cache call) answer = refl
+-- asks at one moment add up
+answered_at-append : (moment : ℕ) (early late : List Asked) → answered_at moment (early ++ late) ≡ answered_at moment early ++ answered_at moment late
+answered_at-append moment early late = simp (map-append)
 
 -- no ask was made
 pub Led-none : (led : List Asking → ℕ → Type 0) (told : Option (List ℕ)) (moment : ℕ) → led [] 0 → Led led told told moment [] []
@@ -68,8 +58,7 @@ Led-none led told moment none = (0, none, Spends-none told)
 -- one ask was made
 pub Led-one : (led : List Asking → ℕ → Type 0) (before now : Option (List ℕ)) (moment : ℕ) (ask : Ask) (answer : AskAnswer)
     → Leads led before now moment ask (answered answer) → Led led before now moment (record { ask = ask; answer = answer } ∷ []) []
-Led-one led before now moment ask answer h =
-    (h.0, subst (λ (made : List Asking). led (made ++ []) h.0) (sym (desk_asks-one moment (record { ask = ask; answer = answer }))) h.1, h.2)
+Led-one led before now moment ask answer h = h
 
 -- asks that led the desk on, and then others that led it on from there
 pub Led-more : (led first_led late_led : List Asking → ℕ → Type 0) (before middle now : Option (List ℕ)) (moment : ℕ) (early late : List Asked) (others : List Asking)
@@ -78,15 +67,15 @@ pub Led-more : (led first_led late_led : List Asking → ℕ → Type 0) (before
 Led-more led first_led late_led before middle now moment early late others adds first more = (
   first.0 + more.0,
   subst (λ (made : List Asking). led made (first.0 + more.0)) one_list
-      (adds (desk_asks moment early ++ []) (desk_asks moment late ++ others) first.0 more.0 first.1 more.1),
+      (adds (answered_at moment early ++ []) (answered_at moment late ++ others) first.0 more.0 first.1 more.1),
   Spends-more before middle now first.0 more.0 first.2 more.2,
 )
   where
-    one_list : (desk_asks moment early ++ []) ++ (desk_asks moment late ++ others) ≡ desk_asks moment (early ++ late) ++ others
+    one_list : (answered_at moment early ++ []) ++ (answered_at moment late ++ others) ≡ answered_at moment (early ++ late) ++ others
     one_list =
-        ap (λ (l : List Asking). l ++ (desk_asks moment late ++ others)) (append-nil (desk_asks moment early))
-        ∙ sym (append_assoc (desk_asks moment early) (desk_asks moment late) others)
-        ∙ ap (λ (l : List Asking). l ++ others) (sym (desk_asks-append moment early late))
+        ap (λ (l : List Asking). l ++ (answered_at moment late ++ others)) (append-nil (answered_at moment early))
+        ∙ sym (append_assoc (answered_at moment early) (answered_at moment late) others)
+        ∙ ap (λ (l : List Asking). l ++ others) (sym (answered_at-append moment early late))
 
 -- ---- how a course was followed
 

@@ -2,17 +2,19 @@
 use Rattle.std.proofs.Common.{◌≡◌, ◌⊎◌, inl, inr, refl, sym, ap, ap₂, ◌∙◌, subst, ℕ, zero, suc, ◌+◌, ◌<◌, ◌≤◌, true, nat_lt, List, [], ◌∷◌, ◌++◌, length, map, Option, None, Some, arith}
 use Rattle.std.specs.List.{Contains}
 use Rattle.std.proofs.lemmas.Bool.Decides.{nat_tests}
+use Rattle.uw_base.specs.declared.variables.Pair.{Pair}
 use Rattle.uw_model.specs.declared.asks.Asked.{Asked}
 use Rattle.uw_rules.specs.declared.compiled.Action.{Action}
 use Rattle.uw_rules.specs.declared.compiled.Action.TheVariants as does
+use Rattle.uw_rules.specs.declared.compiled.TaskPair.{TaskPair}
 use Rattle.uw_rules.specs.WrittenRules.{WrittenRule}
 use Rattle.uw_chain.specs.declared.request.Request.{Request}
 use Rattle.uw_chain.specs.declared.outcome.Outcome.{Outcome}
 use Rattle.uw_chain.specs.declared.outcome.Outcome.TheVariants as outcomes
 use Rattle.uw_chain.specs.ActionTexts.{texts_of_action}
-use Rattle.uw_chain.specs.Actions.{course_of_filled, with_filled}
+use Rattle.uw_chain.specs.Actions.{course_of_filled, filled_pairs, putting_aside, with_filled, with_pair_filled}
 use Rattle.uw_chain.specs.Courses.{Course, Unfolds, ask_next, asking, end_next, ended, next_after}
-use Rattle.uw_chain.specs.Endings.{end_overlong}
+use Rattle.uw_chain.specs.declared.outcome.Ending.TheVariants as endings
 use Rattle.uw_chain.specs.Routing.{Naming, course_of_rules}
 
 -- ---- a run by its next asks
@@ -70,7 +72,7 @@ told_by_answers (asking ask more) (first ∷ all) (second ∷ others) result las
 -- ---- texts that are longer than their limit
 
 abbrev overlong : Request → Course Outcome
-overlong request = ended (outcomes.Ends (end_overlong request))
+overlong request = ended (outcomes.Ends endings.Failing request)
 
 -- no text is one of an empty list
 none_of_none : (text : List ℕ) → Contains [] text → ⊥
@@ -106,8 +108,26 @@ no_text_of_two fill request one two text use_both of none = elim (is_either one 
   | inr same ↦ no_later_text request (fill one) (λ key. with_filled request (fill two) (use_both key)) (λ key. no_text fill request two text (use_both key) same none)
 ]
 
+-- pairs of which one has no text
+no_first_pair : (key : List ℕ) (text : Option (List ℕ)) (others : Option (List Pair)) → text ≡ None → with_pair_filled key text others ≡ None
+no_first_pair key None others none = refl
+no_first_pair key (Some text) others none = absurd (cc)
+
+no_later_pair : (key : List ℕ) (text : Option (List ℕ)) (others : Option (List Pair)) → others ≡ None → with_pair_filled key text others ≡ None
+no_later_pair key None others none = refl
+no_later_pair key (Some text) None none = refl
+no_later_pair key (Some text) (Some others) none = absurd (cc)
+
+no_pairs : (fill : List ℕ → Option (List ℕ)) (pairs : List TaskPair) (text : List ℕ) → Contains (map (λ (pair : TaskPair). pair.value) pairs) text → fill text ≡ None
+    → filled_pairs fill pairs ≡ None
+no_pairs fill [] text of none = absurd (none_of_none text of)
+no_pairs fill (pair ∷ pairs) text (zero, below, is) none =
+    no_first_pair pair.key (fill pair.value) (filled_pairs fill pairs) (ap fill is ∙ none)
+no_pairs fill (pair ∷ pairs) text (suc place, below, is) none =
+    no_later_pair pair.key (fill pair.value) (filled_pairs fill pairs) (no_pairs fill pairs text (place, omega arith, is) none)
+
 pub overlong_action : (fill : List ℕ → Option (List ℕ)) (request : Request) (action : Action) (text : List ℕ) → Contains (texts_of_action action) text
-    → fill text ≡ None → course_of_filled fill request action ≡ ended (outcomes.Ends (end_overlong request))
+    → fill text ≡ None → course_of_filled fill request action ≡ ended (outcomes.Ends endings.Failing request)
 overlong_action fill request does.Continue text of none = absurd (none_of_none text of)
 overlong_action fill request (does.Break status) text of none = absurd (none_of_none text of)
 overlong_action fill request (does.Return code) text of none = absurd (none_of_none text of)
@@ -125,6 +145,10 @@ overlong_action fill request (does.CacheSet write) text of none = no_text_of_two
 overlong_action fill request (does.CacheUpdate write) text of none = no_text_of_two fill request write.key write.value text _ of none
 overlong_action fill request (does.CacheDel key cache var) text of none = no_text fill request key text _ (is_lone key text of) none
 overlong_action fill request (does.CacheMath op key amount expires cache var) text of none = no_text fill request key text _ (is_lone key text of) none
+overlong_action fill request (does.Area area step var) text of none = absurd (none_of_none text of)
+overlong_action fill request (does.AreaWrite area at value var) text of none = no_text fill request value text _ (is_lone value text of) none
+overlong_action fill request (does.Spool pairs) text of none = ap (putting_aside request) (no_pairs fill pairs text of none)
+overlong_action fill request (does.SpoolEnd status) text of none = absurd (none_of_none text of)
 
 -- ---- rules that are passed over
 

@@ -4,4 +4,6 @@ pub mod JudgeLemmas
 pub mod LawLemmas
 pub mod RouteLemmas
 pub mod SearchLemmas
+pub mod SpoolLemmas
+pub mod TaskLemmas
 pub mod WithinLemmas

@@ -12,7 +12,9 @@ use Rattle.uw_rules.specs.declared.compiled.Rule.{Rule}
 use Rattle.uw_rules.specs.declared.compiled.Rule.TheVariants as compiled
 use Rattle.uw_rules.specs.declared.compiled.Test.{Test}
 use Rattle.uw_rules.specs.declared.grammar.ActionName.{ActionName}
-use Rattle.uw_rules.specs.CacheNumbers.{AskCachesBelow, RuleAsksBelow}
+use Rattle.uw_rules.specs.PartNumbers.{AskPartsBelow, RuleAsksBelow}
+use Rattle.uw_rules.specs.declared.grammar.Table.{Table}
+use Rattle.uw_model.specs.Asks.{DeskParts}
 use Rattle.uw_rules.specs.Compiled.{IsActionOf, IsRuleOf, IsTestOf, action_meant}
 use Rattle.uw_rules.specs.Grammar.{ArgumentShape, action_of}
 use Rattle.uw_rules.specs.Tables.{AreRulesOf}
@@ -21,20 +23,21 @@ use Rattle.uw_chain.specs.declared.faults.ChainEnd.{ChainEnd}
 use Rattle.uw_chain.specs.declared.faults.ChainEnd.TheVariants as chains
 use Rattle.uw_chain.specs.declared.outcome.Outcome.{Outcome}
 use Rattle.uw_chain.specs.declared.outcome.Outcome.TheVariants as outcomes
-use Rattle.uw_chain.specs.declared.outcome.RouteEnd.{RouteEnd}
+use Rattle.uw_chain.specs.declared.outcome.Ending.{Ending}
+use Rattle.uw_chain.specs.declared.outcome.Ending.TheVariants as endings
+use Rattle.uw_chain.specs.declared.outcome.Finish.{Finish}
 use Rattle.uw_chain.specs.declared.request.Request.{Request}
 use Rattle.uw_chain.specs.declared.searches.Slot.{Slot}
 use Rattle.uw_chain.specs.declared.verdict.Verdict.{Verdict}
 use Rattle.uw_chain.specs.declared.verdict.Verdict.TheVariants as verdicts
 use Rattle.uw_chain.specs.Actions.{course_of_action}
 use Rattle.uw_chain.specs.Courses.{Course, and_then, ended}
-use Rattle.uw_chain.specs.Endings.{end_of_table}
 use Rattle.uw_chain.specs.KeptSearches.{FitSlots, FitsRule}
 use Rattle.uw_chain.specs.Routing.{Naming, after_rule, course_of_phrase, course_of_rule, course_of_rules, course_of_verdict}
 use Rattle.uw_chain.specs.Runs.{Stops}
 use Rattle.uw_chain.specs.RoutingSteps.{RunsTo}
 use Rattle.uw_chain.specs.Tests.{course_of_test}
-use Rattle.uw_chain.proofs.CourseLemmas.{Led-none, RunsTo-ended, RunsTo-fault, RunsTo-memory, RunsTo-same, RunsTo-then, RunsTo-then_ended, RunsTo-then_memory}
+use Rattle.uw_chain.proofs.CourseLemmas.{Led-none, RunsTo-ended, RunsTo-fault, RunsTo-same, RunsTo-then, RunsTo-then_ended}
 
 -- ---- what holds of rules one by one
 
@@ -82,12 +85,12 @@ slot_set (first ∷ rules) [] at one slot fits below is fit = absurd fits
 slot_set (first ∷ rules) (kept ∷ slots) zero one slot fits below is fit = (subst (λ (r : Rule). FitsRule r slot) is fit, fits.1)
 slot_set (first ∷ rules) (kept ∷ slots) (suc at) one slot fits below is fit = (fits.0, slot_set rules slots at one slot fits.1 (omega arith) is fit)
 
--- the rule at a number asks caches below the count alone
-pub asks_at : (count : ℕ) (rules : List Rule) (at : ℕ) (one : Rule) → AskCachesBelow count rules → at < length rules → one ≡ get_or rules at one
-    → RuleAsksBelow count one
-asks_at count [] at one ask below is = absurd (omega arith)
-asks_at count (first ∷ rules) zero one ask below is = subst (RuleAsksBelow count) (sym is) ask.0
-asks_at count (first ∷ rules) (suc at) one ask below is = asks_at count rules at one ask.1 (omega arith) is
+-- the rule at a number asks caches and areas below the counts alone
+pub asks_at : (parts : DeskParts) (rules : List Rule) (at : ℕ) (one : Rule) → AskPartsBelow parts rules → at < length rules → one ≡ get_or rules at one
+    → RuleAsksBelow parts one
+asks_at parts [] at one ask below is = absurd (omega arith)
+asks_at parts (first ∷ rules) zero one ask below is = subst (RuleAsksBelow parts) (sym is) ask.0
+asks_at parts (first ∷ rules) (suc at) one ask below is = asks_at parts rules at one ask.1 (omega arith) is
 
 -- ---- one rule
 
@@ -97,18 +100,19 @@ pub label_goes_on : (naming : Naming) (moment : ℕ) (request : Request) (one : 
 unfolding course_of_rule
 label_goes_on naming moment request one unparted is of = refl
 label_goes_on naming moment request one (label text) is of = refl
-label_goes_on naming moment request one (rule test phrase) is of =
-    absurd (subst (λ (r : Rule). IsRuleOf naming.names naming.labels r (rule test phrase)) is of)
+label_goes_on naming moment request one (rule table test phrase) is of =
+    absurd (subst (λ (r : Rule). IsRuleOf naming.names naming.labels r (rule table test phrase)) is of)
 
 -- a rule that acts is written as a test and an action
 acting_rule : (naming : Naming) (one : Rule) (test : Test) (action : Action) (P : WrittenRule → Type 0) → one ≡ compiled.Act test action
-    → ((tested : WrittenTest) (phrase : Phrase) → IsTestOf naming.names test tested → IsActionOf naming.names naming.labels action phrase → P (rule tested phrase))
+    → ((table : Table) (tested : WrittenTest) (phrase : Phrase) → IsTestOf naming.names test tested → IsActionOf naming.names naming.labels table action phrase
+    → P (rule table tested phrase))
     → (said : WrittenRule) → IsRuleOf naming.names naming.labels one said → P said
 acting_rule naming one test action P is then_so unparted of = absurd (subst (λ (r : Rule). IsRuleOf naming.names naming.labels r unparted) is of)
 acting_rule naming one test action P is then_so (label text) of = absurd (subst (λ (r : Rule). IsRuleOf naming.names naming.labels r (label text)) is of)
-acting_rule naming one test action P is then_so (rule tested phrase) of =
-    let parts = subst (λ (r : Rule). IsRuleOf naming.names naming.labels r (rule tested phrase)) is of in
-    then_so tested phrase parts.0 parts.1
+acting_rule naming one test action P is then_so (rule table tested phrase) of =
+    let parts = subst (λ (r : Rule). IsRuleOf naming.names naming.labels r (rule table tested phrase)) is of in
+    then_so table tested phrase parts.0 parts.1
 
 -- the course of an action as it is written is that of the compiled one
 action_course : (naming : Naming) (moment : ℕ) (captures : List (List ℕ)) (request : Request) (action : Action) (known : Option (ActionName × ArgumentShape))
@@ -131,35 +135,23 @@ pub rule_fault : (led : List Asking → ℕ → Type 0) (before now : Option (Li
 unfolding course_of_rule
 rule_fault led before now moment naming request one test action list after end is tests =
     acting_rule naming one test action (λ said. RunsTo led before now moment (course_of_rule naming moment request said) list after (Err end)) is
-    (λ tested phrase of acts.
-    RunsTo-fault led before now moment (course_of_test naming.names request.vars moment tested) (course_of_verdict naming moment request phrase) list after end
-    (tests naming.names tested of))
-
--- no memory behind its test
-pub rule_memory : (led : List Asking → ℕ → Type 0) (before now : Option (List ℕ)) (moment : ℕ) (naming : Naming) (request : Request) (one : Rule) (test : Test)
-    (action : Action) (list after : List Asked) (verdict : Verdict) → one ≡ compiled.Act test action → TestRuns led before now moment request test list after (Ok verdict)
-    → (said : WrittenRule) → IsRuleOf naming.names naming.labels one said
-    → RunsTo led before now moment (course_of_rule naming moment request said) list after (Err chains.Memory)
-unfolding course_of_rule
-rule_memory led before now moment naming request one test action list after verdict is tests =
-    acting_rule naming one test action (λ said. RunsTo led before now moment (course_of_rule naming moment request said) list after (Err chains.Memory)) is
-    (λ tested phrase of acts.
-    RunsTo-then_memory led before now moment (course_of_test naming.names request.vars moment tested) (course_of_verdict naming moment request phrase) list after verdict
+    (λ table tested phrase of acts.
+    RunsTo-fault led before now moment (course_of_test naming.names request.vars moment tested) (course_of_verdict naming moment request table phrase) list after end
     (tests naming.names tested of))
 
 -- its test decides what comes of it
 pub rule_decided : (led : List Asking → ℕ → Type 0) (before now : Option (List ℕ)) (moment : ℕ) (naming : Naming) (request : Request) (one : Rule) (test : Test)
     (action : Action) (list after : List Asked) (verdict : Verdict) (outcome : Outcome) → one ≡ compiled.Act test action
     → TestRuns led before now moment request test list after (Ok verdict)
-    → ((phrase : Phrase) → course_of_verdict naming moment request phrase verdict ≡ ended outcome)
+    → ((table : Table) (phrase : Phrase) → course_of_verdict naming moment request table phrase verdict ≡ ended outcome)
     → (said : WrittenRule) → IsRuleOf naming.names naming.labels one said
     → RunsTo led before now moment (course_of_rule naming moment request said) list after (Ok outcome)
 unfolding course_of_rule
 rule_decided led before now moment naming request one test action list after verdict outcome is tests decides =
     acting_rule naming one test action (λ said. RunsTo led before now moment (course_of_rule naming moment request said) list after (Ok outcome)) is
-    (λ tested phrase of acts.
-    RunsTo-then_ended led before now moment (course_of_test naming.names request.vars moment tested) (course_of_verdict naming moment request phrase) list after verdict
-    outcome (tests naming.names tested of) (decides phrase))
+    (λ table tested phrase of acts.
+    RunsTo-then_ended led before now moment (course_of_test naming.names request.vars moment tested) (course_of_verdict naming moment request table phrase) list after verdict
+    outcome (tests naming.names tested of) (decides table phrase))
 
 -- its test is met, and then it acts
 pub rule_acts : (led first_led late_led : List Asking → ℕ → Type 0) (before middle now : Option (List ℕ)) (moment : ℕ) (naming : Naming) (request : Request)
@@ -173,12 +165,12 @@ pub rule_acts : (led first_led late_led : List Asking → ℕ → Type 0) (befor
 unfolding course_of_rule
 rule_acts led first_led late_led before middle now moment naming request one test action list between after captures result adds is tests acted =
     acting_rule naming one test action (λ said. RunsTo led before now moment (course_of_rule naming moment request said) list after result) is
-    (λ tested phrase of acts.
+    (λ table tested phrase of acts.
     RunsTo-then led first_led late_led before middle now moment (course_of_test naming.names request.vars moment tested)
-    (course_of_verdict naming moment request phrase) list between after (verdicts.Met captures) result adds (tests naming.names tested of)
+    (course_of_verdict naming moment request table phrase) list between after (verdicts.Met captures) result adds (tests naming.names tested of)
     (RunsTo-same late_led middle now moment (course_of_action moment captures request action)
-    (course_of_phrase naming moment captures request (action_of phrase.name) phrase.argument) between after result
-    (sym (action_course naming moment captures request action (action_of phrase.name) phrase.argument acts)) acted))
+    (course_of_phrase naming moment captures request (action_of table phrase.name) phrase.argument) between after result
+    (sym (action_course naming moment captures request action (action_of table phrase.name) phrase.argument acts)) acted))
 
 -- ---- rules in a row
 
@@ -227,7 +219,7 @@ rule_first naming moment at said written request e = rw (e, none_below at) refl
 
 -- behind the last rule
 rules_over : (naming : Naming) (moment at : ℕ) (written : List WrittenRule) (request : Request) → length written ≤ at
-    → course_of_rules naming moment at 0 (drop at written) request ≡ ended (end_of_table request)
+    → course_of_rules naming moment at 0 (drop at written) request ≡ ended (record { ending = endings.OfTable; request = request })
 rules_over naming moment at written request over = rw (drop_all at written over) refl
 
 -- ---- how the rules were followed
@@ -237,7 +229,7 @@ abbrev pub Passes : {Dsk : Type 0} → (Dsk → Dsk → List Asking → ℕ → 
     → List Asked → List Asked → Type 0
 Passes {Dsk} leads start here before now moment rules first request at list asks =
     (naming : Naming) (written : List WrittenRule) → AreRulesOf naming.names naming.labels rules written
-    → (later : Dsk) (told : Option (List ℕ)) (after : List Asked) (result : Result RouteEnd ChainEnd)
+    → (later : Dsk) (told : Option (List ℕ)) (after : List Asked) (result : Result Finish ChainEnd)
     → RunsTo (leads here later) now told moment (course_of_rules naming moment at 0 (drop at written) request) asks after result
     → RunsTo (leads start later) before told moment (course_of_rules naming moment 0 0 written first) list after result
 
@@ -261,7 +253,7 @@ pub passes_rule : {Dsk : Type 0} → (leads : Dsk → Dsk → List Asking → �
 passes_rule leads adds start here mid before now next_told moment rules first request changed at next list asks between one outcome below is runs goes_on passes
     naming written are later told after result further =
     let found = rule_at naming.names naming.labels rules written at one are below is in
-    let behind : Outcome → Course RouteEnd = after_rule (λ number other. course_of_rules naming moment (at + 1) number (drop (at + 1) written) other) in
+    let behind : Outcome → Course Finish = after_rule (λ number other. course_of_rules naming moment (at + 1) number (drop (at + 1) written) other) in
     passes naming written are later told after result
     (RunsTo-same (leads here later) now told moment (and_then (course_of_rule naming moment request found.0) behind)
     (course_of_rules naming moment at 0 (drop at written) request) asks after result (rule_first naming moment at found.0 written request found.2)
@@ -280,7 +272,7 @@ pub passes_fault : {Dsk : Type 0} → (leads : Dsk → Dsk → List Asking → �
     → RunsTo (leads start mid) before told moment (course_of_rules naming moment 0 0 written first) list after (Err end)
 passes_fault leads start here mid before now told moment rules first request at list asks after one end below is runs passes naming written are =
     let found = rule_at naming.names naming.labels rules written at one are below is in
-    let behind : Outcome → Course RouteEnd = after_rule (λ number other. course_of_rules naming moment (at + 1) number (drop (at + 1) written) other) in
+    let behind : Outcome → Course Finish = after_rule (λ number other. course_of_rules naming moment (at + 1) number (drop (at + 1) written) other) in
     passes naming written are mid told after (Err end)
     (RunsTo-same (leads here mid) now told moment (and_then (course_of_rule naming moment request found.0) behind)
     (course_of_rules naming moment at 0 (drop at written) request) asks after (Err end) (rule_first naming moment at found.0 written request found.2)
@@ -288,43 +280,34 @@ passes_fault leads start here mid before now told moment rules first request at 
 
 -- a rule that ends the request
 pub passes_ends : {Dsk : Type 0} → (leads : Dsk → Dsk → List Asking → ℕ → Type 0) (start here mid : Dsk) (before now told : Option (List ℕ)) (moment : ℕ)
-    (rules : List Rule) (first request : Request) (at : ℕ) (list asks after : List Asked) (one : Rule) (ending : RouteEnd)
+    (rules : List Rule) (first request : Request) (at : ℕ) (list asks after : List Asked) (one : Rule) (ending : Ending) (last : Request)
     → at < length rules → one ≡ get_or rules at one
-    → RuleRuns (leads here mid) now told moment one request asks after (Ok (outcomes.Ends ending))
+    → RuleRuns (leads here mid) now told moment one request asks after (Ok (outcomes.Ends ending last))
     → Passes leads start here before now moment rules first request at list asks
     → (naming : Naming) (written : List WrittenRule) → AreRulesOf naming.names naming.labels rules written
-    → RunsTo (leads start mid) before told moment (course_of_rules naming moment 0 0 written first) list after (Ok ending)
-passes_ends leads start here mid before now told moment rules first request at list asks after one ending below is runs passes naming written are =
+    → RunsTo (leads start mid) before told moment (course_of_rules naming moment 0 0 written first) list after (Ok (record { ending = ending; request = last }))
+passes_ends leads start here mid before now told moment rules first request at list asks after one ending last below is runs passes naming written are =
     let found = rule_at naming.names naming.labels rules written at one are below is in
-    let behind : Outcome → Course RouteEnd = after_rule (λ number other. course_of_rules naming moment (at + 1) number (drop (at + 1) written) other) in
-    passes naming written are mid told after (Ok ending)
+    let behind : Outcome → Course Finish = after_rule (λ number other. course_of_rules naming moment (at + 1) number (drop (at + 1) written) other) in
+    passes naming written are mid told after (Ok (record { ending = ending; request = last }))
     (RunsTo-same (leads here mid) now told moment (and_then (course_of_rule naming moment request found.0) behind)
-    (course_of_rules naming moment at 0 (drop at written) request) asks after (Ok ending) (rule_first naming moment at found.0 written request found.2)
-    (RunsTo-then_ended (leads here mid) now told moment (course_of_rule naming moment request found.0) behind asks after (outcomes.Ends ending) ending
+    (course_of_rules naming moment at 0 (drop at written) request) asks after (Ok (record { ending = ending; request = last })) (rule_first naming moment at found.0 written request found.2)
+    (RunsTo-then_ended (leads here mid) now told moment (course_of_rule naming moment request found.0) behind asks after (outcomes.Ends ending last)
+    (record { ending = ending; request = last })
     (runs naming found.0 found.1) refl))
 
 -- behind the last rule the request ends
 pub passes_over : {Dsk : Type 0} → (leads : Dsk → Dsk → List Asking → ℕ → Type 0) (none : (desk : Dsk) → leads desk desk [] 0) (start here : Dsk)
-    (before now : Option (List ℕ)) (moment : ℕ) (rules : List Rule) (first request : Request) (at : ℕ) (list asks : List Asked) (ending : RouteEnd)
-    → length rules ≤ at → ending ≡ end_of_table request
-    → Passes leads start here before now moment rules first request at list asks
-    → (naming : Naming) (written : List WrittenRule) → AreRulesOf naming.names naming.labels rules written
-    → RunsTo (leads start here) before now moment (course_of_rules naming moment 0 0 written first) list asks (Ok ending)
-passes_over leads none start here before now moment rules first request at list asks ending over is passes naming written are =
-    let many = as_many naming.names naming.labels rules written are in
-    passes naming written are here now asks (Ok ending)
-    (RunsTo-ended (leads here here) now moment (course_of_rules naming moment at 0 (drop at written) request) asks ending (none here)
-    (rules_over naming moment at written request (omega arith) ∙ ap (λ (way : RouteEnd). ended way) (sym is)))
-
--- no memory behind the last rule
-pub passes_memory : {Dsk : Type 0} → (leads : Dsk → Dsk → List Asking → ℕ → Type 0) (none : (desk : Dsk) → leads desk desk [] 0) (start here : Dsk)
     (before now : Option (List ℕ)) (moment : ℕ) (rules : List Rule) (first request : Request) (at : ℕ) (list asks : List Asked)
+    → length rules ≤ at
     → Passes leads start here before now moment rules first request at list asks
     → (naming : Naming) (written : List WrittenRule) → AreRulesOf naming.names naming.labels rules written
-    → RunsTo (leads start here) before now moment (course_of_rules naming moment 0 0 written first) list asks (Err chains.Memory)
-passes_memory leads none start here before now moment rules first request at list asks passes naming written are =
-    passes naming written are here now asks (Err chains.Memory)
-    (RunsTo-memory (leads here here) now moment (course_of_rules naming moment at 0 (drop at written) request) asks (none here))
+    → RunsTo (leads start here) before now moment (course_of_rules naming moment 0 0 written first) list asks (Ok (record { ending = endings.OfTable; request = request }))
+passes_over leads none start here before now moment rules first request at list asks over passes naming written are =
+    let many = as_many naming.names naming.labels rules written are in
+    passes naming written are here now asks (Ok (record { ending = endings.OfTable; request = request }))
+    (RunsTo-ended (leads here here) now moment (course_of_rules naming moment at 0 (drop at written) request) asks
+    (record { ending = endings.OfTable; request = request }) (none here) (rules_over naming moment at written request (omega arith)))
 
 -- a jump goes on at its number, or at the next rule
 pub jump_goes_on : (naming : Naming) (moment at number next : ℕ) (written : List WrittenRule) (request : Request) → next ≡ max number (at + 1)
@@ -337,7 +320,7 @@ jump_goes_on naming moment at number next written request is =
     sym (jumped naming moment (at + 1) number (drop (at + 1) written) request ∙ later)
 
 -- no memory before the first rule
-pub stops_first : (led : List Asking → ℕ → Type 0) (told : Option (List ℕ)) (moment : ℕ) (course : Course RouteEnd) (done : List Asked) → led [] 0 → done ≡ []
+pub stops_first : {X : Type 0} → (led : List Asking → ℕ → Type 0) (told : Option (List ℕ)) (moment : ℕ) (course : Course X) (done : List Asked) → led [] 0 → done ≡ []
     → Stops led told told moment course done chains.Memory
 stops_first led told moment course done none is = rw is (inl (course, refl, Led-none led told moment none))
 

@@ -1,7 +1,8 @@
 -- The templates of an action ("InternalRouting").
-use Rattle.std.specs.Prelude.{ℕ, List, [], ◌∷◌, None, Some}
+use Rattle.std.specs.Prelude.{ℕ, List, [], ◌∷◌, map, None, Some}
 use Rattle.uw_rules.specs.declared.compiled.Action.{Action}
 use Rattle.uw_rules.specs.declared.compiled.Action.TheVariants as does
+use Rattle.uw_rules.specs.declared.compiled.TaskPair.{TaskPair}
 
 -- the templates of an action, in the order in which they are filled
 abbrev pub texts_of_action : Action → List (List ℕ)
@@ -18,4 +19,6 @@ texts_of_action (does.CacheSet write) = write.key ∷ write.value ∷ []
 texts_of_action (does.CacheUpdate write) = write.key ∷ write.value ∷ []
 texts_of_action (does.CacheDel key cache var) = key ∷ []
 texts_of_action (does.CacheMath op key amount expires cache var) = key ∷ []
+texts_of_action (does.AreaWrite area at value var) = value ∷ []
+texts_of_action (does.Spool pairs) = map (λ (pair : TaskPair). pair.value) pairs
 texts_of_action _ = []

@@ -1,9 +1,11 @@
 -- How a request ends: its reply (own rule, in the form of HTTP/1.1).
-use Rattle.std.specs.Prelude.{ℕ, ◌==◌, Bool, false, not, if◌then◌else◌, List, [], ◌∷◌, ◌++◌, codes, Option, None, Some}
+use Rattle.std.specs.Prelude.{ℕ, ◌==◌, Bool, false, not, if◌then◌else◌, List, [], ◌∷◌, ◌++◌, codes, Option, None, Some, ℤ, pos, negsuc}
 use Rattle.std.specs.Str.{bytes_eq}
 use Rattle.uw_base.specs.declared.variables.Pair.{Pair}
 use Rattle.uw_base.specs.Variables.{value_of}
 use Rattle.uw_chain.specs.declared.request.Request.{Request}
+use Rattle.uw_chain.specs.declared.outcome.Ending.{Ending}
+use Rattle.uw_chain.specs.declared.outcome.Ending.TheVariants as endings
 use Rattle.uw_chain.specs.declared.outcome.RouteEnd.{RouteEnd}
 
 -- the statuses of the codes that `return` takes
@@ -67,15 +69,20 @@ unfoldable pub end_by_break : Option (List ℕ) → Request → RouteEnd
 end_by_break (Some status) request = end_with status false request
 end_by_break None request = end_with (codes "200 OK") (not request.sent) request
 
--- the end by a redirect to a place
-unfoldable pub end_by_redirect : List ℕ → List ℕ → Request → RouteEnd
-end_by_redirect status place request = end_with status false (with_header request (codes "Location: " ++ place))
+-- the end of a request, by how its rules ended; rules of requests give no status of a task
+abbrev pub end_of_request : Ending → Request → RouteEnd
+end_of_request endings.OfTable request = end_of_table request
+end_of_request (endings.Break status) request = end_by_break status request
+end_of_request (endings.Page code) request = end_with_page (status_of_code code) request
+end_of_request endings.Failing request = end_with_page (status_of_code 500) request
+end_of_request (endings.Task number) request = end_of_table request
 
--- the end by a value that a cache has
-unfoldable pub end_by_value : List ℕ → List ℕ → Request → RouteEnd
-end_by_value content_type value request =
-    end_with (codes "200 OK") false (record (with_header request (codes "Content-Type: " ++ content_type)) { body = request.body ++ value })
+-- the status of a task, by how its rules ended: its own, or 0 at the end of the table, or -1 (negsuc 0)
+abbrev pub status_of_task : Ending → ℤ
+status_of_task endings.OfTable = pos 0
+status_of_task (endings.Task number) = number
+status_of_task ending = negsuc 0
 
--- the end where a text is longer than its limit
-abbrev pub end_overlong : Request → RouteEnd
-end_overlong request = end_with_page (status_of_code 500) request
+-- a value that a cache has, behind the body so far
+abbrev pub with_cached_value : List ℕ → List ℕ → Request → Request
+with_cached_value content_type value request = record (with_header request (codes "Content-Type: " ++ content_type)) { body = request.body ++ value }

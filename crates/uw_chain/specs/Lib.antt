@@ -1,5 +1,6 @@
 pub mod Courses
 pub mod Endings
+pub mod Spooling
 pub mod Tests
 pub mod Actions
 pub mod ActionTexts

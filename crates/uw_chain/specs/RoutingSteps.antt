@@ -1,10 +1,14 @@
 -- What the parts of routing do.
 use Rattle.std.specs.Prelude.{◌≡◌, ℕ, Bool, true, false, List, [], ◌∷◌, ◌++◌, Option, None, Some, Result, Ok, Err, length, ◌==◌}
 use Rattle.std.specs.Str.{bytes_eq}
+use Rattle.uw_base.specs.declared.bytes.Memory.{Memory}
 use Rattle.uw_base.specs.declared.variables.Pair.{Pair}
+use Rattle.uw_keeper.specs.Keeping.{Keeping}
 use Rattle.uw_model.specs.declared.asks.Ask.{Ask}
+use Rattle.uw_model.specs.declared.asks.Ask.TheVariants as spool_asks
 use Rattle.uw_model.specs.declared.asks.AskAnswer.{AskAnswer}
-use Rattle.uw_model.specs.declared.calls.Call.{Call}
+use Rattle.uw_model.specs.declared.asks.AskAnswer.TheVariants as ask_answers
+use Rattle.uw_model.specs.declared.asks.SpoolAnswer.{SpoolAnswer}
 use Rattle.uw_model.specs.declared.desk.DeskFault.{DeskFault}
 use Rattle.uw_model.specs.declared.desk.DeskFault.TheVariants as desks
 use Rattle.uw_rules.specs.declared.compiled.Condition.{Condition}
@@ -18,16 +22,17 @@ use Rattle.uw_chain.specs.declared.outcome.Outcome.TheVariants as outcomes
 use Rattle.uw_chain.specs.declared.request.Request.{Request}
 use Rattle.uw_chain.specs.declared.judging.Comparison.{Comparison}
 use Rattle.uw_chain.specs.declared.judging.Comparison.TheVariants as comparisons
-use Rattle.uw_chain.specs.declared.acting.Want.{Want}
+use Rattle.uw_chain.specs.declared.wanting.Want.{Want}
 use Rattle.uw_rules.specs.declared.compiled.Action.{Action}
 use Rattle.uw_rules.specs.declared.compiled.Action.TheVariants as does
-use Rattle.uw_model.specs.Asks.{Asking}
+use Rattle.uw_model.specs.Asks.{Asking, answered}
 use Rattle.uw_model.specs.declared.asks.Asked.{Asked}
 use Rattle.uw_chain.specs.Courses.{Course, asking, ended}
 use Rattle.uw_chain.specs.Runs.{Follows, Stops}
-use Rattle.uw_chain.specs.Endings.{end_overlong}
+use Rattle.uw_chain.specs.declared.outcome.Ending.TheVariants as endings
 use Rattle.uw_chain.specs.Tests.{about_text, asking_cache, comparing, filled_within, has_back, has_front, has_within, verdict_of}
-use Rattle.uw_chain.specs.Actions.{cache_ask, value_outcome, with_answer}
+use Rattle.uw_chain.specs.Actions.{put_outcome, value_outcome, with_answer}
+use Rattle.uw_chain.specs.Spooling.{Keeps}
 
 -- ---- courses
 
@@ -76,9 +81,18 @@ course_of_compiled vars moment (asks.Empty text) = about_text (filled_within tex
 course_of_compiled vars moment (asks.Regexp text pattern) = ended verdicts.Missed
 course_of_compiled vars moment (asks.InCache key cache) = asking_cache (filled_within key vars [] moment) cache
 
+-- ---- tasks
+
+-- a task was put aside or was not, and its ask stands with its answer at the end of a list; or there was no memory, and the list and the keeper are as they were
+abbrev pub PutsAside : Keeping → Keeping → List Pair → List ℕ → List Asked → List Asked → Result (Unit {0}) Memory → Type 0
+PutsAside before now vars body list after (Ok done) =
+    (answer : SpoolAnswer) × (after ≡ list ++ record { ask = spool_asks.Spool vars body; answer = ask_answers.Spool answer } ∷ [])
+    × Keeps before now (record { moment = 0; ask = spool_asks.Spool vars body; end = answered (ask_answers.Spool answer) } ∷ [])
+PutsAside before now vars body list after (Err memory) = (after ≡ list) × (now ≡ before)
+
 -- ---- actions
 
--- the action asks a cache
+-- the action asks something
 abbrev pub is_asking : Action → Bool
 is_asking (does.Cache key content_type cache) = true
 is_asking (does.CacheVar key cache var) = true
@@ -86,27 +100,35 @@ is_asking (does.CacheSet write) = true
 is_asking (does.CacheUpdate write) = true
 is_asking (does.CacheDel key cache var) = true
 is_asking (does.CacheMath op key amount expires cache var) = true
+is_asking (does.Area area step var) = true
+is_asking (does.AreaWrite area at value var) = true
+is_asking (does.Spool pairs) = true
 is_asking _ = false
 
--- the template of the key that an action asks for
+-- the action asks a cache for a key alone
+abbrev pub has_key : Action → Bool
+has_key (does.CacheVar key cache var) = true
+has_key (does.CacheDel key cache var) = true
+has_key (does.CacheMath op key amount expires cache var) = true
+has_key _ = false
+
+-- the template of the key that such an action asks for
 abbrev pub key_in : Action → List ℕ
-key_in (does.Cache key content_type cache) = key
 key_in (does.CacheVar key cache var) = key
-key_in (does.CacheSet write) = write.key
-key_in (does.CacheUpdate write) = write.key
 key_in (does.CacheDel key cache var) = key
 key_in (does.CacheMath op key amount expires cache var) = key
 key_in _ = []
 
--- the number of the cache that an action asks
-abbrev pub cache_in : Action → Option ℕ
-cache_in (does.Cache key content_type cache) = cache
-cache_in (does.CacheVar key cache var) = cache
-cache_in (does.CacheSet write) = write.cache
-cache_in (does.CacheUpdate write) = write.cache
-cache_in (does.CacheDel key cache var) = cache
-cache_in (does.CacheMath op key amount expires cache var) = cache
-cache_in _ = None
+-- the action writes an entry of a cache
+abbrev pub is_write : Action → Bool
+is_write (does.CacheSet write) = true
+is_write (does.CacheUpdate write) = true
+is_write _ = false
+
+-- pairs behind others, unless they are none
+abbrev pub behind_pairs : List Pair → Option (List Pair) → Option (List Pair)
+behind_pairs front None = None
+behind_pairs front (Some pairs) = Some (front ++ pairs)
 
 -- the variable that takes the answer of an action
 abbrev pub var_in : Action → Option (List ℕ)
@@ -115,14 +137,17 @@ var_in (does.CacheSet write) = write.var
 var_in (does.CacheUpdate write) = write.var
 var_in (does.CacheDel key cache var) = var
 var_in (does.CacheMath op key amount expires cache var) = var
+var_in (does.Area area step var) = var
+var_in (does.AreaWrite area at value var) = var
 var_in _ = None
 
 -- what is done with the answer of an action
 abbrev pub used_by : Action → List ℕ → Request → AskAnswer → Outcome
 used_by (does.Cache key content_type cache) text request answer = value_outcome text request answer
+used_by (does.Spool pairs) text request answer = put_outcome request answer
 used_by action text request answer = outcomes.GoesOn (with_answer (var_in action) request answer)
 
--- the course of an action that asks, if its texts are within their limit
+-- the course of an action that asks, if its texts are within their limit, and a task has a block
 abbrev pub course_of_want : Request → Action → Option Want → Course Outcome
-course_of_want request action None = ended (outcomes.Ends (end_overlong request))
-course_of_want request action (Some want) = asking (cache_ask want.cache want.call) (λ answer. ended (used_by action want.content_type request answer))
+course_of_want request action None = ended (outcomes.Ends endings.Failing request)
+course_of_want request action (Some want) = asking want.ask (λ answer. ended (used_by action want.content_type request answer))

@@ -11,9 +11,10 @@ use Rattle.uw_chain.specs.declared.faults.ChainEnd.{ChainEnd}
 use Rattle.uw_chain.specs.declared.faults.ChainEnd.TheVariants as chains
 use Rattle.uw_chain.specs.declared.faults.ChainFault.{ChainFault}
 use Rattle.uw_chain.specs.declared.faults.Routed.{Routed}
+use Rattle.uw_chain.specs.declared.faults.TaskEnd.{TaskEnd}
 use Rattle.uw_chain.specs.declared.outcome.RouteEnd.{RouteEnd}
 use Rattle.uw_chain.specs.Courses.{Course, Unfolds, asking, ended}
-use Rattle.uw_chain.specs.Routing.{Naming, course_of_request, RoutingRun}
+use Rattle.uw_chain.specs.Routing.{Naming, course_of_request, course_of_task}
 
 -- a course was followed to its end by these asks, which led the desk on
 abbrev pub Follows : {X : Type 0} → (List Asking → ℕ → Type 0) → Option (List ℕ) → Option (List ℕ) → ℕ → Course X → List Asked → X → Type 0
@@ -65,3 +66,13 @@ is_death chains.Memory = false
 abbrev pub has_died_routing : Result Routed ChainFault → Bool
 has_died_routing (Ok routed) = false
 has_died_routing (Err fault) = is_death fault.end
+
+-- a task was run: its asks and its status are a run of the rules, and the asks led the desk and the keeper on; or why it was not
+abbrev pub RunsTask : (List Asking → ℕ → Type 0) → Option (List ℕ) → Option (List ℕ) → Naming → List WrittenRule → ℕ → List Pair → Result TaskEnd ChainFault → Type 0
+RunsTask led before now naming rules moment vars (Ok end) = Follows led before now moment (course_of_task naming rules moment vars) end.asks end.status
+RunsTask led before now naming rules moment vars (Err fault) = Stops led before now moment (course_of_task naming rules moment vars) fault.done fault.end
+
+-- the worker died in a task
+abbrev pub has_died_in_task : Result TaskEnd ChainFault → Bool
+has_died_in_task (Ok end) = false
+has_died_in_task (Err fault) = is_death fault.end

@@ -1,9 +1,9 @@
-// How a request ends: its reply.
+// How a request ends: its reply; and how a task ends: its status.
 ghost use Rattle.std.specs.Prelude.{◌≡◌, ◌++◌, ◌∷◌, [], IfOk, OnOk};
 ghost use Rattle.std.specs.Option.{option_copied};
-ghost use Rattle.uw_chain.specs.Endings.{asks_for_head, end_by_break, end_by_value, end_of_table, end_overlong, end_with, end_with_page, status_of_code, with_header};
+ghost use Rattle.uw_chain.specs.Endings.{end_by_break, end_of_request, end_of_table, end_with, end_with_page, status_of_code, status_of_task, with_header, with_cached_value};
 
-use crate::outcome::RouteEnd;
+use crate::outcome::{Ending, RouteEnd};
 use crate::request::Request;
 use std::alloc::Global;
 use uw_base::texts::is;
@@ -71,13 +71,6 @@ impl Request {
         self.end_with(alloc, status, false)
     }
 
-    /// Ends where a text is longer than its limit.
-    pub fn end_overlong(self, alloc: Global) -> Result<RouteEnd, Memory>
-        ensures { IfOk result (λ ending. ending ≡ end_overlong self) }
-    {
-        self.end_with_page(alloc, status_of_code(500))
-    }
-
     /// Ends behind the last rule: with what was sent, or because nothing was found.
     #[tactic(auto, unfolding(crate::specs::Endings::end_of_table))]
     pub fn end_of_table(self, alloc: Global) -> Result<RouteEnd, Memory>
@@ -104,18 +97,40 @@ impl Request {
         }
     }
 
-    /// Ends by a value that a cache has.
-    #[tactic(auto, unfolding(crate::specs::Endings::end_by_value))]
-    pub fn end_by_value(
-        mut self,
+    /// Ends by how the rules came to their end.
+    pub fn end(self, alloc: Global, ending: Ending) -> Result<RouteEnd, Memory>
+        ensures { IfOk result (λ end. end ≡ end_of_request ending self) }
+    {
+        match ending {
+            Ending::OfTable | Ending::Task(_) => self.end_of_table(alloc),
+            Ending::Break(Some(status)) => self.end_by_break(alloc, Some(status.as_slice())),
+            Ending::Break(None) => self.end_by_break(alloc, None),
+            Ending::Page(code) => self.end_with_page(alloc, status_of_code(code)),
+            Ending::Failing => self.end_with_page(alloc, status_of_code(500)),
+        }
+    }
+
+    /// Puts a value that a cache has behind the body, without a copy of its own, and its content type into the head.
+    pub fn put_value(
+        &mut self,
         alloc: Global,
         content_type: &[u8],
         value: &[u8],
-    ) -> Result<RouteEnd, Memory>
-        ensures { IfOk result (λ ending. ending ≡ end_by_value content_type.now value.now self) }
+    ) -> Result<(), Memory>
+        ensures { OnOk result (self.new ≡ with_cached_value content_type.now value.now self.old) }
     {
         self.add_header(Bytes::joined(alloc, b"Content-Type: ", content_type)?)?;
-        self.body.append(value)?;
-        self.end_with(alloc, b"200 OK", false)
+        self.body.append(value)
+    }
+}
+
+/// The status of a task whose rules ended so: its own, or 0 at the end of the table, or -1.
+pub fn status_of_task(ending: &Ending) -> i64
+    ensures { result ≡ status_of_task ending.now }
+{
+    match ending {
+        Ending::OfTable => 0,
+        Ending::Task(status) => *status,
+        Ending::Break(_) | Ending::Page(_) | Ending::Failing => -1,
     }
 }

@@ -1,7 +1,9 @@
 // Templates filled for a rule.
-ghost use Rattle.std.specs.Prelude.{◌≡◌, ◌++◌, IfOk, option_map};
+ghost use Rattle.std.specs.Prelude.{◌≡◌, ◌≤◌, ◌++◌, length, IfOk, IfSome, option_map};
+ghost use Rattle.uw_subst.specs.Answers.{most_filled};
 ghost use Rattle.uw_chain.specs.Tests.{filled_within};
 
+use crate::request::Request;
 use std::alloc::Global;
 use uw_base::{Bytes, BytesList, Memory, Vars};
 use uw_subst::{Filled, Template};
@@ -43,4 +45,23 @@ impl Filling<'_> {
             Ok(None)
         }
     }
+}
+
+/// The text of a template of a request, none where it is longer than its limit.
+pub fn text(
+    alloc: Global,
+    template: &Template,
+    request: &Request,
+    captures: &BytesList,
+    moment: u64,
+) -> Result<Option<Bytes>, Memory>
+    ensures filled { IfOk result (λ text. text ≡ filled_within template.now request.now.vars captures.now moment) }
+    ensures few { IfOk result (λ text. IfSome text (λ text. length text ≤ most_filled)) }
+{
+    let filling = Filling {
+        vars: &request.vars,
+        captures,
+        moment,
+    };
+    filling.text(alloc, template)
 }

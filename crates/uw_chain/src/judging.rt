@@ -2,7 +2,7 @@
 ghost use Rattle.std.specs.Prelude.{◌≡◌, [], List, ℕ, Option, not, true, false, IfOk};
 ghost use Rattle.uw_outside.specs.Faults.{HasCause};
 ghost use Rattle.uw_rules.specs.declared.grammar.ConditionName.{ConditionName};
-ghost use Rattle.uw_rules.specs.CacheNumbers.{ConditionAsksBelow, IsNumberBelow, TestAsksBelow};
+ghost use Rattle.uw_rules.specs.PartNumbers.{ConditionAsksBelow, IsNumberBelow, TestAsksBelow};
 ghost use Rattle.uw_rules.specs.Compiled.{IsConditionOf, IsTestOf};
 ghost use Rattle.uw_rules.specs.Patterns.{IsPatternOf};
 ghost use Rattle.uw_rules.specs.WrittenRules.{WrittenTest};
@@ -10,6 +10,7 @@ ghost use Rattle.uw_chain.specs.Courses.{ended};
 ghost use Rattle.uw_chain.specs.KeptSearches.{FitsCondition, FitsPattern, FitsTest};
 ghost use Rattle.uw_chain.specs.RoutingSteps.{RunsTo, both_within, compares, course_of_compiled, is_ask, is_regexp};
 ghost use Rattle.uw_chain.specs.Runs.{has_died_following};
+ghost use Rattle.uw_chain.specs.Spooling.{both_led, kept_by};
 ghost use Rattle.uw_chain.specs.Tests.{about_text, asking_cache, comparing, course_of_condition, course_of_test, filled_within, has_back, has_front, has_within, is_flag_set, verdict_of, verdict_of_pattern, verdict_when};
 
 use crate::asking::{ask_cache, last_answer};
@@ -22,6 +23,7 @@ use regex::bytes::Regex;
 use std::alloc::Global;
 use uw_base::texts::is;
 use uw_base::{Bytes, BytesList, Memory, Vars};
+use uw_keeper::Keeper;
 use uw_model::{Answer, AskAnswer, AskList, Call, Desk};
 use uw_outside::Life;
 use uw_rules::compiled::{Condition, Test};
@@ -183,22 +185,24 @@ fn judge_pattern<'r>(
 }
 
 // Asks a cache whether it has a key.
-fn judge_cache<D: Desk, L: Life>(
+#[tactic(auto, using(crate::proofs::SpoolLemmas::kept_none))]
+fn judge_cache<D: Desk, P: Keeper, L: Life>(
     alloc: Global,
     key: &Template,
     cache: Option<u32>,
     filling: &Filling<'_>,
     asks: &mut AskList,
     desk: &mut D,
+    keep: &mut P,
     life: &mut L,
 ) -> Result<Verdict, ChainEnd>
-    requires known { IsNumberBelow (D.caches desk.old) cache }
+    requires known { IsNumberBelow (D.parts desk.old).caches cache }
     requires alive { L.alive life.old ≡ true }
-    ensures runs { RunsTo (D.leads desk.old desk.new) (L.allowances life.old) (L.allowances life.new) filling.now.moment
+    ensures runs { RunsTo (both_led (D.leads desk.old desk.new) (kept_by P.rows P.append_faults P.other_faults keep.old keep.new)) (L.allowances life.old) (L.allowances life.new) filling.now.moment
         (asking_cache (filled_within key.now filling.now.vars.now filling.now.captures.now filling.now.moment) cache) asks.old asks.new result }
     ensures cause { HasCause (L.deaths life.old) (L.deaths life.new) (has_died_following result) }
     ensures alive { L.alive life.new ≡ not (has_died_following result) }
-    ensures caches { D.caches desk.new ≡ D.caches desk.old }
+    ensures parts { D.parts desk.new ≡ D.parts desk.old }
     ensures settled { D.settled desk.old ≡ true → has_died_following result ≡ false → D.settled desk.new ≡ true }
 {
     let Some(key) = filling.text(alloc, key)? else {
@@ -211,6 +215,7 @@ fn judge_cache<D: Desk, L: Life>(
         filling.moment,
         asks,
         desk,
+        keep,
         life,
     )?;
     Ok(verdict_of(alloc, is_flag_set(last_answer(asks))))
@@ -222,31 +227,33 @@ fn is_flag_set(answer: &AskAnswer) -> bool
 {
     match answer {
         AskAnswer::Cache(Answer::Flag(flag)) => *flag,
-        AskAnswer::Cache(_) => false,
+        _ => false,
     }
 }
 
 // Judges a condition.
-fn judge_condition<'r, D: Desk, L: Life>(
+#[tactic(auto, using(crate::proofs::SpoolLemmas::kept_none))]
+fn judge_condition<'r, D: Desk, P: Keeper, L: Life>(
     alloc: Global,
     slot: &mut Slot<'r>,
     condition: &'r Condition,
     filling: &Filling<'_>,
     asks: &mut AskList,
     desk: &mut D,
+    keep: &mut P,
     life: &mut L,
 ) -> Result<Verdict, ChainEnd>
     requires fits { FitsCondition condition.now slot.old }
     requires captures { filling.now.captures.now ≡ [] }
-    requires known { ConditionAsksBelow (D.caches desk.old) condition.now }
+    requires known { ConditionAsksBelow (D.parts desk.old) condition.now }
     requires alive { L.alive life.old ≡ true }
     ensures runs { (names : List (List ℕ)) (name : ConditionName) (argument : Option (List ℕ)) → IsConditionOf names condition.now name argument
-        → RunsTo (D.leads desk.old desk.new) (L.allowances life.old) (L.allowances life.new) filling.now.moment
+        → RunsTo (both_led (D.leads desk.old desk.new) (kept_by P.rows P.append_faults P.other_faults keep.old keep.new)) (L.allowances life.old) (L.allowances life.new) filling.now.moment
         (course_of_condition names filling.now.vars.now filling.now.moment name argument) asks.old asks.new result }
     ensures fits { FitsCondition condition.now slot.new }
     ensures cause { HasCause (L.deaths life.old) (L.deaths life.new) (has_died_following result) }
     ensures alive { L.alive life.new ≡ not (has_died_following result) }
-    ensures caches { D.caches desk.new ≡ D.caches desk.old }
+    ensures parts { D.parts desk.new ≡ D.parts desk.old }
     ensures settled { D.settled desk.old ≡ true → has_died_following result ≡ false → D.settled desk.new ≡ true }
 {
     match condition {
@@ -254,14 +261,15 @@ fn judge_condition<'r, D: Desk, L: Life>(
             Ok(judge_pattern(alloc, slot, text, pattern, filling)?)
         }
         Condition::InCache { key, cache } => {
-            judge_cache(alloc, key, *cache, filling, asks, desk, life)
+            judge_cache(alloc, key, *cache, filling, asks, desk, keep, life)
         }
         _ => Ok(judge_texts(alloc, condition, filling)?),
     }
 }
 
 /// Judges the test of a rule, with the search that is kept for its pattern.
-pub fn judge<'r, D: Desk, L: Life>(
+#[tactic(auto, using(crate::proofs::SpoolLemmas::kept_none))]
+pub fn judge<'r, D: Desk, P: Keeper, L: Life>(
     alloc: Global,
     slot: &mut Slot<'r>,
     test: &'r Test,
@@ -269,18 +277,19 @@ pub fn judge<'r, D: Desk, L: Life>(
     moment: u64,
     asks: &mut AskList,
     desk: &mut D,
+    keep: &mut P,
     life: &mut L,
 ) -> Result<Verdict, ChainEnd>
     requires fits { FitsTest test.now slot.old }
-    requires known { TestAsksBelow (D.caches desk.old) test.now }
+    requires known { TestAsksBelow (D.parts desk.old) test.now }
     requires alive { L.alive life.old ≡ true }
     ensures runs { (names : List (List ℕ)) (written : WrittenTest) → IsTestOf names test.now written
-        → RunsTo (D.leads desk.old desk.new) (L.allowances life.old) (L.allowances life.new) moment
+        → RunsTo (both_led (D.leads desk.old desk.new) (kept_by P.rows P.append_faults P.other_faults keep.old keep.new)) (L.allowances life.old) (L.allowances life.new) moment
         (course_of_test names vars.now moment written) asks.old asks.new result }
     ensures fits { FitsTest test.now slot.new }
     ensures cause { HasCause (L.deaths life.old) (L.deaths life.new) (has_died_following result) }
     ensures alive { L.alive life.new ≡ not (has_died_following result) }
-    ensures caches { D.caches desk.new ≡ D.caches desk.old }
+    ensures parts { D.parts desk.new ≡ D.parts desk.old }
     ensures settled { D.settled desk.old ≡ true → has_died_following result ≡ false → D.settled desk.new ≡ true }
 {
     match test {
@@ -295,7 +304,9 @@ pub fn judge<'r, D: Desk, L: Life>(
                 captures: &captures,
                 moment,
             };
-            let verdict = judge_condition(alloc, slot, condition, &filling, asks, desk, life)?;
+            let verdict = judge_condition(
+                alloc, slot, condition, &filling, asks, desk, keep, life,
+            )?;
             Ok(verdict_when(alloc, *negated, verdict))
         }
     }

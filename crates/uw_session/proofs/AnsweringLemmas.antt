@@ -1,13 +1,14 @@
 -- How a course is followed to a reply, or not to its end.
-use Rattle.std.proofs.Common.{◌≡◌, inl, inr, refl, sym, ap, ◌∙◌, subst, ℕ, ◌≤◌, true, false, List, [], ◌∷◌, ◌++◌, Option, None, Result, Ok, Err, arith}
+use Rattle.std.proofs.Common.{◌≡◌, inl, inr, refl, sym, ap, ◌∙◌, subst, ℕ, ◌≤◌, true, false, List, [], ◌∷◌, ◌++◌, Option, None, Some, Result, Ok, Err, arith}
 use Rattle.std.specs.Prelude.{IfOk}
+use Rattle.uw_keeper.specs.Keeping.{Keeping}
 use Rattle.uw_outside.proofs.Lives.{Spends-none}
 use Rattle.uw_base.specs.declared.bytes.Memory.{Memory}
 use Rattle.uw_model.specs.declared.asks.Ask.{Ask}
 use Rattle.uw_model.specs.declared.asks.Ask.TheVariants as asks
 use Rattle.uw_model.specs.declared.asks.AskAnswer.{AskAnswer}
 use Rattle.uw_model.specs.declared.asks.Asked.{Asked}
-use Rattle.uw_model.specs.Asks.{Asking, answered, Leads, Led, desk_asks}
+use Rattle.uw_model.specs.Asks.{Asking, DeskParts, answered, Leads, Led}
 use Rattle.uw_cachecmd.specs.declared.commands.CmdFault.{CmdFault}
 use Rattle.uw_cachecmd.specs.Replies.{refusal_reply}
 use Rattle.uw_packet.specs.declared.packet.Header.{Header}
@@ -21,6 +22,8 @@ use Rattle.uw_chain.specs.declared.outcome.RouteEnd.{RouteEnd}
 use Rattle.uw_chain.specs.Courses.{Course, ended, asking, and_then, Unfolds}
 use Rattle.uw_chain.specs.Routing.{Naming, course_of_request}
 use Rattle.uw_chain.specs.Runs.{AsksOnce, Follows, Routes, Stops}
+use Rattle.uw_chain.specs.Spooling.{Keeps, both_led}
+use Rattle.uw_chain.proofs.SpoolLemmas.{kept_none}
 use Rattle.uw_reply.specs.ReplyBytes.{reply_text_of}
 use Rattle.uw_session.specs.declared.answering.Answered.{Answered}
 use Rattle.uw_session.specs.declared.faults.Refusal.TheVariants as refusals
@@ -28,7 +31,9 @@ use Rattle.uw_session.specs.declared.taking.Content.{Content}
 use Rattle.uw_session.specs.declared.taking.Content.TheVariants as contents
 use Rattle.uw_session.specs.declared.taking.TakeFault.{TakeFault}
 use Rattle.uw_session.specs.declared.taking.TakeFault.TheVariants as takes
-use Rattle.uw_session.specs.Exchange.{Site, ask_reply, broken_at, course_of_command, course_of_packet, end_bytes}
+use Rattle.uw_conf.specs.declared.conf.Conf.{Conf}
+use Rattle.uw_conf.specs.Given.{parts_in}
+use Rattle.uw_session.specs.Exchange.{HasParts, Site, broken_at, course_of_packet, end_bytes, put_reply}
 use Rattle.uw_session.specs.Serving.{AnswersPacket}
 use Rattle.uw_session.specs.SessionSteps.{AnswersCourse, GivesContent, IsAnswerable, IsAnsweredBy, IsContentOf, broken_by, fault_before_asks}
 
@@ -60,16 +65,14 @@ Stops-then led before now moment course next made chains.Memory h =
 pub Led-none : (led : List Asking → ℕ → Type 0) (told : Option (List ℕ)) (moment : ℕ) → led [] 0 → Led led told told moment [] []
 Led-none led told moment none = (0, none, Spends-none told)
 
--- the asks of one ask
-desk_asks-one : (moment : ℕ) (ask : Ask) (answer : AskAnswer)
-    → desk_asks moment (record { ask = ask; answer = answer } ∷ []) ≡ record { moment = moment; ask = ask; end = answered answer } ∷ []
-desk_asks-one moment (asks.Cache cache call) answer = refl
-
 -- one ask was made
 Led-one : (led : List Asking → ℕ → Type 0) (before now : Option (List ℕ)) (moment : ℕ) (ask : Ask) (answer : AskAnswer)
     → Leads led before now moment ask (answered answer) → Led led before now moment (record { ask = ask; answer = answer } ∷ []) []
-Led-one led before now moment ask answer h =
-    (h.0, subst (λ (made : List Asking). led (made ++ []) h.0) (sym (desk_asks-one moment ask answer)) h.1, h.2)
+Led-one led before now moment ask answer h = h
+
+-- no ask leads a desk and a keeper from a state to itself
+pub both_none : (led : List Asking → ℕ → Type 0) (k : Keeping) → led [] 0 → both_led led (Keeps k k) [] 0
+both_none led k none = (none, kept_none k)
 
 -- ---- replies
 
@@ -83,36 +86,37 @@ follows_to_reply led before now moment course made bytes (Ok text) result h same
 follows_to_reply led before now moment course made bytes (Err memory) result h same is =
     subst (λ (r : Result Answered ChainFault). AnswersCourse led before now moment course r) (sym is) (inl (ended bytes, h.0, h.1))
 
--- the ask of a command was answered
-pub command_answered : {T : Type 0} → (led : List Asking → ℕ → Type 0) (before now : Option (List ℕ)) (moment m2 : ℕ) (command : Ask) (list after : List Asked)
-    (done : T) (told : AskAnswer) (reply : Result (List ℕ) Memory) (result : Result Answered ChainFault) → list ≡ []
-    → AsksOnce led before now moment command list after (Ok done)
-    → ((front : List Asked) (asked : Asked) → after ≡ front ++ asked ∷ [] → told ≡ asked.answer) → IfOk reply (λ text. text ≡ ask_reply m2 told)
-    → IsAnsweredBy after reply result → AnswersCourse led before now moment (course_of_command m2 (Ok command)) result
-command_answered led before now moment m2 command list after done told reply result none h last same is =
-    let made : Asked = record { ask = command; answer = h.0 } in
+-- the one ask of a course was answered
+pub one_answered : {T : Type 0} → (led : List Asking → ℕ → Type 0) (before now : Option (List ℕ)) (moment : ℕ) (ask : Ask) (reply_to : AskAnswer → List ℕ)
+    (list after : List Asked) (done : T) (told : AskAnswer) (reply : Result (List ℕ) Memory) (result : Result Answered ChainFault) → list ≡ []
+    → AsksOnce led before now moment ask list after (Ok done)
+    → ((front : List Asked) (asked : Asked) → after ≡ front ++ asked ∷ [] → told ≡ asked.answer) → IfOk reply (λ text. text ≡ reply_to told)
+    → IsAnsweredBy after reply result → AnswersCourse led before now moment (asking ask (λ answer. ended (reply_to answer))) result
+one_answered led before now moment ask reply_to list after done told reply result none h last same is =
+    let course : Course (List ℕ) = asking ask (λ answer. ended (reply_to answer)) in
+    let made : Asked = record { ask = ask; answer = h.0 } in
     let after_is : after ≡ made ∷ [] = h.1 ∙ ap (λ (l : List Asked). l ++ made ∷ []) none in
-    let follows : Follows led before now moment (course_of_command m2 (Ok command)) (made ∷ []) (ask_reply m2 told) =
-    ((refl, ap (λ (a : AskAnswer). ended (ask_reply m2 a)) (sym (last list made h.1))), Led-one led before now moment command h.0 h.2)
+    let follows : Follows led before now moment course (made ∷ []) (reply_to told) =
+    ((refl, ap (λ (a : AskAnswer). ended (reply_to a)) (sym (last list made h.1))), Led-one led before now moment ask h.0 h.2)
     in
-    follows_to_reply led before now moment (course_of_command m2 (Ok command)) (made ∷ []) (ask_reply m2 told) reply result follows same
+    follows_to_reply led before now moment course (made ∷ []) (reply_to told) reply result follows same
     (subst (λ (l : List Asked). IsAnsweredBy l reply result) after_is is)
 
--- the ask of a command was not answered
-pub command_unanswered : (T : Type 0) (led : List Asking → ℕ → Type 0) (before now : Option (List ℕ)) (moment m2 : ℕ) (command : Ask) (list after : List Asked)
-    (end : ChainEnd) → list ≡ [] → AsksOnce {T = T} led before now moment command list after (Err end)
-    → Stops led before now moment (course_of_command m2 (Ok command)) after end
-command_unanswered T led before now moment m2 command list after (chains.Died true) none h =
-    subst (λ (l : List Asked). Stops led before now moment (course_of_command m2 (Ok command)) l (chains.Died true)) (sym (h.0 ∙ none))
-    (h.1, (h.2.0, (command, λ answer. ended (ask_reply m2 answer), refl, h.2.1)))
-command_unanswered T led before now moment m2 command list after (chains.Died false) none h =
-    subst (λ (l : List Asked). Stops led before now moment (course_of_command m2 (Ok command)) l (chains.Died false)) (sym (h.0 ∙ none))
-    (h.1, (command, λ answer. ended (ask_reply m2 answer), refl, h.2))
-command_unanswered T led before now moment m2 command list after chains.Memory none h =
-    subst (λ (l : List Asked). Stops led before now moment (course_of_command m2 (Ok command)) l chains.Memory) (sym (h.0 ∙ none))
+-- the one ask of a course was not answered
+pub one_unanswered : (T : Type 0) (led : List Asking → ℕ → Type 0) (before now : Option (List ℕ)) (moment : ℕ) (ask : Ask) (reply_to : AskAnswer → List ℕ)
+    (list after : List Asked) (end : ChainEnd) → list ≡ [] → AsksOnce {T = T} led before now moment ask list after (Err end)
+    → Stops led before now moment (asking ask (λ answer. ended (reply_to answer))) after end
+one_unanswered T led before now moment ask reply_to list after (chains.Died true) none h =
+    subst (λ (l : List Asked). Stops led before now moment (asking ask (λ answer. ended (reply_to answer))) l (chains.Died true)) (sym (h.0 ∙ none))
+    (h.1, (h.2.0, (ask, λ answer. ended (reply_to answer), refl, h.2.1)))
+one_unanswered T led before now moment ask reply_to list after (chains.Died false) none h =
+    subst (λ (l : List Asked). Stops led before now moment (asking ask (λ answer. ended (reply_to answer))) l (chains.Died false)) (sym (h.0 ∙ none))
+    (h.1, (ask, λ answer. ended (reply_to answer), refl, h.2))
+one_unanswered T led before now moment ask reply_to list after chains.Memory none h =
+    subst (λ (l : List Asked). Stops led before now moment (asking ask (λ answer. ended (reply_to answer))) l chains.Memory) (sym (h.0 ∙ none))
     (elim h.1 [
-      | inl unasked ↦ inl (course_of_command m2 (Ok command), refl, unasked)
-      | inr one ↦ inr (command, λ answer. ended (ask_reply m2 answer), refl, one)
+      | inl unasked ↦ inl (asking ask (λ answer. ended (reply_to answer)), refl, unasked)
+      | inr one ↦ inr (ask, λ answer. ended (reply_to answer), refl, one)
     ])
 
 -- a request was routed to its end
@@ -138,7 +142,7 @@ request_stopped led before now moment naming rules vars fault h =
 -- the course of a refused command
 refused_course : (site : Site) (moment : ℕ) (head : Header) (block : List ℕ) (fault : CmdFault) → IsContentOf site.options head block (contents.Refused fault)
     → course_of_packet site moment head block ≡ ended (refusal_reply head.m2 fault)
-refused_course site moment head block fault h = rw (h.0, h.1) refl
+refused_course site moment head block fault h = rw (h.0, h.1, h.2) refl
 
 -- a command is refused
 pub refused_answered : (led : List Asking → ℕ → Type 0) (told : Option (List ℕ)) (moment m2 : ℕ) (site : Site) (head : Header) (block : List ℕ) (fault : CmdFault)
@@ -153,11 +157,22 @@ refused_answered led told moment m2 site head block fault made reply result quie
     )
     same (subst (λ (l : List Asked). IsAnsweredBy l reply result) none is)
 
--- what can be answered over so many caches can over more of them
-pub IsAnswerable-more : (few many : ℕ) (content : Content) → few ≤ many → IsAnswerable few content → IsAnswerable many content
-IsAnswerable-more few many (contents.Request vars) more h = h
-IsAnswerable-more few many (contents.Command (asks.Cache cache call)) more h = omega arith
-IsAnswerable-more few many (contents.Refused fault) more h = h
+-- the course of a task
+pub task_course : (site : Site) (moment : ℕ) (head : Header) (block : List ℕ) (vars : List Pair) (body : List ℕ)
+    → IsContentOf site.options head block (contents.Task vars body)
+    → asking (asks.Spool vars body) (λ answer. ended (put_reply answer)) ≡ course_of_packet site moment head block
+task_course site moment head block vars body h =
+    let said = h.2 in
+    rw (h.0, h.1, said.1, said.2, said.3) refl
+
+-- what can be answered over the parts of a configuration can over a desk that has them
+pub IsAnswerable-more : (conf : Conf) (parts : DeskParts) (content : Content) → HasParts parts conf → IsAnswerable (parts_in conf) content → IsAnswerable parts content
+IsAnswerable-more conf parts (contents.Request vars) enough h = h
+IsAnswerable-more conf parts (contents.Task vars body) enough h = h
+IsAnswerable-more conf parts (contents.Command (asks.Cache cache call)) enough h = omega (arith, h, enough.caches)
+IsAnswerable-more conf parts (contents.Command (asks.Area area op)) enough h = omega (arith, h, enough.areas)
+IsAnswerable-more conf parts (contents.Command (asks.Spool vars body)) enough h = h
+IsAnswerable-more conf parts (contents.Refused fault) enough h = h
 
 -- ---- packets
 

@@ -1,14 +1,24 @@
 -- Packets, part by part, as they are taken.
-use Rattle.std.proofs.Common.{◌≡◌, inl, inr, refl, sym, ◌∙◌, subst, ℕ, ◌<◌, ◌≤◌, ◌^◌, Bool, true, false, List, ◌++◌, length, Option, None, Some, Ok, Err, append_assoc, arith}
-use Rattle.std.specs.Prelude.{if◌then◌else◌, nat_lt}
+use Rattle.std.proofs.Common.{◌≡◌, inl, inr, refl, sym, ◌∙◌, subst, ℕ, ◌<◌, ◌≤◌, ◌^◌, Bool, true, false, List, [], ◌∷◌, ◌++◌, length, Option, None, Some, Result, Ok, Err, append_assoc, arith}
+use Rattle.std.specs.Prelude.{if◌then◌else◌, nat_lt, IsSome}
+use Rattle.std.specs.List.{list_all}
+use Rattle.std.proofs.lemmas.Bool.{lt-ltb}
 use Rattle.uw_outside.specs.Faults.{Rose}
 use Rattle.uw_outside.specs.Streams.{Inflow, Takes, inflow}
 use Rattle.uw_outside.proofs.Streams.{Takes-append}
+use Rattle.uw_base.specs.declared.variables.Pair.{Pair}
+use Rattle.uw_packet.specs.BlockReads.{AreBytes, vars_block}
+use Rattle.uw_packet.specs.Blocks.{AreShort, texts_of_pairs, vars_read}
+use Rattle.uw_packet.proofs.BlockLaws.{IsVarsBlock-read}
 use Rattle.uw_packet.specs.declared.packet.Header.{Header}
 use Rattle.uw_packet.specs.declared.packet.PacketFault.{PacketFault}
 use Rattle.uw_packet.specs.declared.packet.PacketFault.TheVariants as packets
 use Rattle.uw_packet.specs.Packet.{header_bytes}
 use Rattle.uw_packet.specs.Reads.{ReadsBlock, SkipsBody}
+use Rattle.uw_model.specs.declared.asks.Ask.{Ask}
+use Rattle.uw_model.specs.declared.asks.Ask.TheVariants as asks
+use Rattle.uw_model.specs.Asks.{DeskParts, IsOfPart}
+use Rattle.uw_chain.specs.Spooling.{CanBeAsked}
 use Rattle.uw_conf.specs.declared.conf.Options.{Options}
 use Rattle.uw_session.specs.declared.faults.Refusal.{Refusal}
 use Rattle.uw_session.specs.declared.faults.Refusal.TheVariants as refusals
@@ -101,6 +111,23 @@ block_fault options left ended faults old middle new head (packets.BadBlock at) 
 
 -- ---- what the block says
 
+-- whether texts are short, as the test finds it
+short_are_tested : (texts : List (List ℕ)) → AreShort texts → list_all (λ text. nat_lt (length text) 65536) texts ≡ true
+short_are_tested [] short = refl
+short_are_tested (text ∷ texts) short = rw (lt-ltb (length text) 65536 short.0, short_are_tested texts short.1) refl
+
+-- pairs that were read from a short block have a block
+pub pairs_have_block : (block : List ℕ) (pairs : List Pair) → AreBytes block → length block < 2 ^ 16 → vars_read block ≡ Ok pairs → IsSome (vars_block pairs)
+pairs_have_block block pairs bytes short read =
+    let is = IsVarsBlock-read block pairs bytes read in
+    rw (short_are_tested (texts_of_pairs pairs) is.short, ← is.whole, lt-ltb (length block) 65536 short) refl
+
+-- an ask of a part can be asked
+pub part_can_be_asked : (parts : DeskParts) (ask : Ask) → IsOfPart parts ask → CanBeAsked parts ask
+part_can_be_asked parts (asks.Cache cache call) h = h
+part_can_be_asked parts (asks.Area area op) h = h
+part_can_be_asked parts (asks.Spool vars body) h = absurd h
+
 -- a block is out of its grammar, or no memory was left for what it says
 pub content_fault : (options : Options) (r : Inflow) (head : Header) (block : List ℕ) (fault : TakeFault) → IsBlockOf options head block
     → Takes r.before r.now (header_bytes head ++ block) → GivesContent options head block (Err fault) → TakesPacket options r (Err fault)
@@ -118,6 +145,7 @@ content_fault options r head block takes.Memory is taken h = (header_bytes head 
 pub body_behind : (options : Options) (head : Header) (block : List ℕ) (content : Content) → IsContentOf options head block content
     → body_length head block ≡ length_behind content
 body_behind options head block (contents.Request vars) h = rw (h.0, h.1) refl
+body_behind options head block (contents.Task vars body) h = rw h.0 refl
 body_behind options head block (contents.Command ask) h = rw h.0 refl
 body_behind options head block (contents.Refused fault) h = rw h.0 refl
 

@@ -1,5 +1,5 @@
 -- One request: what it asks, and its reply (own rule).
-use Rattle.std.specs.Prelude.{◌≡◌, ℕ, ◌^◌, ◌<◌, ◌==◌, nat_lt, nat_le, Bool, ◌&&◌, ◌||◌, if◌then◌else◌, List, [], ◌++◌, length, map, codes, Option, None, Some, option_and_then, Result, Ok, Err}
+use Rattle.std.specs.Prelude.{◌≡◌, ℕ, ◌^◌, ◌<◌, ◌≤◌, ◌==◌, nat_lt, nat_le, Bool, ◌&&◌, ◌||◌, if◌then◌else◌, List, [], ◌++◌, length, map, codes, Option, None, Some, option_and_then, Result, Ok, Err}
 use Rattle.std.specs.Int.{to_le_bytes, w32}
 use Rattle.uw_base.specs.declared.variables.Pair.{Pair}
 use Rattle.uw_base.specs.Numbers.{decimal_of}
@@ -10,10 +10,11 @@ use Rattle.uw_packet.specs.Blocks.{vars_read}
 use Rattle.uw_model.specs.declared.asks.Ask.{Ask}
 use Rattle.uw_model.specs.declared.asks.AskAnswer.{AskAnswer}
 use Rattle.uw_model.specs.declared.asks.AskAnswer.TheVariants as ask_answers
+use Rattle.uw_model.specs.Asks.{DeskParts}
 use Rattle.uw_cachecmd.specs.declared.commands.CmdFault.{CmdFault}
 use Rattle.uw_cachecmd.specs.declared.commands.CmdFault.TheVariants as commands
 use Rattle.uw_cachecmd.specs.Commands.{ask_of}
-use Rattle.uw_cachecmd.specs.Replies.{reply_text, refusal_reply}
+use Rattle.uw_cachecmd.specs.Replies.{reply_text, refusal_reply, spool_text}
 use Rattle.uw_reply.specs.ReplyBytes.{reply_text_of}
 use Rattle.uw_rules.specs.Compiled.{rules_of}
 use Rattle.uw_rules.specs.Tables.{AreRulesOf}
@@ -21,6 +22,7 @@ use Rattle.uw_rules.specs.WrittenRules.{WrittenRule}
 use Rattle.uw_chain.specs.declared.outcome.RouteEnd.{RouteEnd}
 use Rattle.uw_chain.specs.Courses.{Course, Next, and_then, asking, ended, next_after}
 use Rattle.uw_chain.specs.Routing.{Naming, course_of_request}
+use Rattle.uw_chain.specs.Spooling.{task_ask}
 use Rattle.uw_conf.specs.declared.conf.Conf.{Conf}
 use Rattle.uw_conf.specs.declared.conf.Options.{Options}
 use Rattle.uw_conf.specs.Given.{options_in}
@@ -31,11 +33,13 @@ use Rattle.uw_session.specs.declared.faults.Refusal.TheVariants as refusals
 
 -- ---- a site
 
--- what answers requests: the options of a configuration, and its rules as they are written
+-- what answers requests and runs tasks: the options of a configuration, and its rules of requests and of tasks as they are written
 pub record Site : Type 0 where
   pub options : Options
   pub naming : Naming
   pub rules : List WrittenRule
+  pub task_naming : Naming
+  pub task_rules : List WrittenRule
 
 -- the names of the caches, in their order
 abbrev pub names_of : Options → List (List ℕ)
@@ -46,6 +50,13 @@ pub record IsSiteOf (conf : Conf) (site : Site) : Type 0 where
   pub options : options_in conf ≡ site.options
   pub names : site.naming.names ≡ names_of site.options
   pub rules : AreRulesOf site.naming.names site.naming.labels (rules_of conf.routes) site.rules
+  pub task_names : site.task_naming.names ≡ names_of site.options
+  pub task_rules : AreRulesOf site.task_naming.names site.task_naming.labels (rules_of conf.tasks) site.task_rules
+
+-- a desk has at least as many caches and areas as a configuration
+pub record HasParts (parts : DeskParts) (conf : Conf) : Type 0 where
+  pub caches : length conf.caches ≤ parts.caches
+  pub areas : length conf.areas ≤ parts.areas
 
 -- ---- a packet
 
@@ -64,9 +75,13 @@ exchange_bytes x = header_bytes x.head ++ x.block ++ x.body
 abbrev pub is_request : Header → Bool
 is_request head = head.m1 == 0
 
--- the modifiers that are served: those of requests, and those of commands
+-- the modifiers of a task
+abbrev pub is_task : Header → Bool
+is_task head = head.m1 == 17
+
+-- the modifiers that are served: those of requests, those of tasks, and those of commands
 abbrev pub is_served : ℕ → ℕ → Bool
-is_served m1 m2 = m1 == 0 || (m1 == 111 && (m2 == 0 || m2 == 1 || m2 == 2 || m2 == 200))
+is_served m1 m2 = m1 == 0 || m1 == 17 || (m1 == 111 && (m2 == 0 || m2 == 1 || m2 == 2 || m2 == 200))
 
 -- why a header is refused, before its block is read: its size, and then its modifiers
 abbrev pub header_refusal : Options → Header → Option Refusal
@@ -87,19 +102,19 @@ broken_command (Err commands.UnknownCache) = None
 broken_command (Err commands.BadNumber) = None
 broken_command (Err commands.Memory) = None
 
--- the variables of a request; a block out of its grammar has none
+-- the variables of a request or a task; a block out of its grammar has none
 abbrev pub pairs_of : Result (List Pair) ℕ → List Pair
 pairs_of (Ok pairs) = pairs
 pairs_of (Err at) = []
 
--- the place at which a request's block is out of its grammar
+-- the place at which the block of a request or a task is out of its grammar
 abbrev pub broken_vars : Result (List Pair) ℕ → Option ℕ
 broken_vars (Ok pairs) = None
 broken_vars (Err at) = Some at
 
 -- the place at which a packet's block is out of its grammar
 abbrev pub broken_at : Options → Header → List ℕ → Option ℕ
-broken_at options head block = if is_request head then broken_vars (vars_read block) else broken_command (asked_by options head block)
+broken_at options head block = if is_request head || is_task head then broken_vars (vars_read block) else broken_command (asked_by options head block)
 
 -- the most bytes of a body
 abbrev pub most_body_bytes : ℕ
@@ -131,20 +146,30 @@ pub record IsAccepted (options : Options) (x : Exchange) : Type 0 where
 abbrev pub end_bytes : RouteEnd → List ℕ
 end_bytes ending = reply_text_of ending.reply ending.head_only
 
--- the reply to a command's ask
+-- the reply to a command's ask, which is one of a cache
 abbrev pub ask_reply : ℕ → AskAnswer → List ℕ
 ask_reply m2 (ask_answers.Cache answer) = reply_text m2 answer
+ask_reply m2 _ = []
+
+-- the reply to a task that was to be put aside
+abbrev pub put_reply : AskAnswer → List ℕ
+put_reply (ask_answers.Spool answer) = spool_text answer
+put_reply _ = []
+
+-- the course of a task: it is put aside
+abbrev pub course_of_putting : List Pair → Course (List ℕ)
+course_of_putting pairs = asking (task_ask pairs) (λ answer. ended (put_reply answer))
 
 -- the course of a command: one ask, or its refusal at once
 abbrev pub course_of_command : ℕ → Result Ask CmdFault → Course (List ℕ)
 course_of_command m2 (Ok ask) = asking ask (λ answer. ended (ask_reply m2 answer))
 course_of_command m2 (Err fault) = ended (refusal_reply m2 fault)
 
--- the course of a packet, from its first ask to its reply: of a request by the rules, of a command by its block
+-- the course of a packet, from its first ask to its reply: of a request by the rules, of a task by its variables, of a command by its block
 abbrev pub course_of_packet : Site → ℕ → Header → List ℕ → Course (List ℕ)
 course_of_packet site moment head block =
     if is_request head then and_then (course_of_request site.naming site.rules moment (pairs_of (vars_read block))) (λ ending. ended (end_bytes ending))
-    else course_of_command head.m2 (asked_by site.options head block)
+    else (if is_task head then course_of_putting (pairs_of (vars_read block)) else course_of_command head.m2 (asked_by site.options head block))
 
 -- the course of a packet that was taken
 abbrev pub course_of_site : Site → Exchange → Course (List ℕ)

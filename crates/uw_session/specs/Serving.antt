@@ -81,7 +81,7 @@ IsSwallowed options bytes =
 
 -- ---- results
 
--- one call over a source, a sink, a desk and a life: the desk's asks, and the life's allowances before and now
+-- one call over a source, a sink, a desk, a keeper and a life: which asks led the desk and the keeper on, and the life's allowances before and now
 pub record Flow : Type 1 where
   pub src : Inflow
   pub snk : Outflow

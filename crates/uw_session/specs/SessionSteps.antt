@@ -1,8 +1,10 @@
 -- What the parts of serving a request do.
-use Rattle.std.specs.Prelude.{◌≡◌, ℕ, ◌<◌, ◌≤◌, ◌^◌, Bool, true, false, List, [], ◌++◌, length, take, codes, Option, None, Some, Result, Ok, Err}
+use Rattle.std.specs.Prelude.{◌≡◌, ℕ, ◌<◌, ◌≤◌, ◌^◌, Bool, true, false, List, [], ◌++◌, length, take, codes, Option, None, Some, IsSome, Result, Ok, Err}
 use Rattle.uw_outside.specs.Faults.{Rose}
 use Rattle.uw_outside.specs.Streams.{Inflow, Outflow, Takes, Gives}
+use Rattle.uw_base.specs.declared.variables.Pair.{Pair}
 use Rattle.uw_base.specs.Variables.{value_of}
+use Rattle.uw_packet.specs.BlockReads.{vars_block}
 use Rattle.uw_packet.specs.declared.packet.Header.{Header}
 use Rattle.uw_packet.specs.declared.packet.Packet.{Packet}
 use Rattle.uw_packet.specs.declared.packet.PacketFault.{PacketFault}
@@ -11,7 +13,7 @@ use Rattle.uw_packet.specs.Packet.{header_bytes}
 use Rattle.uw_packet.specs.Blocks.{vars_read}
 use Rattle.uw_packet.specs.Reads.{IsOver}
 use Rattle.uw_base.specs.declared.bytes.Memory.{Memory}
-use Rattle.uw_model.specs.Asks.{Asking, IsOfOneOf}
+use Rattle.uw_model.specs.Asks.{Asking, DeskParts}
 use Rattle.uw_model.specs.declared.asks.Asked.{Asked}
 use Rattle.uw_cachecmd.specs.Replies.{HasReply}
 use Rattle.uw_chain.specs.declared.faults.ChainEnd.{ChainEnd}
@@ -19,6 +21,7 @@ use Rattle.uw_chain.specs.declared.faults.ChainEnd.TheVariants as chains
 use Rattle.uw_chain.specs.declared.faults.ChainFault.{ChainFault}
 use Rattle.uw_chain.specs.Courses.{Course}
 use Rattle.uw_chain.specs.Runs.{Follows, Stops, is_death}
+use Rattle.uw_chain.specs.Spooling.{CanBeAsked, task_body, task_vars}
 use Rattle.uw_conf.specs.declared.conf.Options.{Options}
 use Rattle.uw_session.specs.declared.faults.Form.{Form}
 use Rattle.uw_session.specs.declared.faults.Refusal.{Refusal}
@@ -31,7 +34,7 @@ use Rattle.uw_session.specs.declared.taking.Content.TheVariants as contents
 use Rattle.uw_session.specs.declared.taking.TakeFault.{TakeFault}
 use Rattle.uw_session.specs.declared.taking.TakeFault.TheVariants as takes
 use Rattle.uw_session.specs.declared.answering.Answered.{Answered}
-use Rattle.uw_session.specs.Exchange.{asked_by, body_length, broken_at, content_length, formed, header_refusal, is_request}
+use Rattle.uw_session.specs.Exchange.{asked_by, body_length, broken_at, broken_vars, content_length, formed, header_refusal, is_request, is_task}
 use Rattle.uw_session.specs.Serving.{IsBegun, IsBlockOf, IsRefused, IsSwallowed, IsTruncated, fault_of_refusal}
 
 -- ---- faults
@@ -51,17 +54,23 @@ IsJudged refused (Err refusal) = refused ≡ Some refusal
 
 -- ---- what a block says
 
+-- the task that a block says: these variables and this body
+abbrev pub IsTaskOf : List ℕ → List Pair → List ℕ → Type 0
+IsTaskOf block vars body = (pairs : List Pair) × (vars_read block ≡ Ok pairs) × (vars ≡ task_vars pairs) × (body ≡ task_body pairs)
+
 -- the content of a block
 abbrev pub IsContentOf : Options → Header → List ℕ → Content → Type 0
 IsContentOf options head block (contents.Request vars) = (is_request head ≡ true) × (vars_read block ≡ Ok vars)
-IsContentOf options head block (contents.Command ask) = (is_request head ≡ false) × (asked_by options head block ≡ Ok ask)
-IsContentOf options head block (contents.Refused fault) = (is_request head ≡ false) × (asked_by options head block ≡ Err fault)
+IsContentOf options head block (contents.Task vars body) = (is_request head ≡ false) × (is_task head ≡ true) × IsTaskOf block vars body
+IsContentOf options head block (contents.Command ask) = (is_request head ≡ false) × (is_task head ≡ false) × (asked_by options head block ≡ Ok ask)
+IsContentOf options head block (contents.Refused fault) = (is_request head ≡ false) × (is_task head ≡ false) × (asked_by options head block ≡ Err fault)
 
--- a content can be answered over so many caches: a command's ask is of one of them, a refusal has a reply
-abbrev pub IsAnswerable : ℕ → Content → Type 0
-IsAnswerable caches (contents.Request vars) = Unit {0}
-IsAnswerable caches (contents.Command ask) = IsOfOneOf caches ask
-IsAnswerable caches (contents.Refused fault) = HasReply fault
+-- a content can be answered over a desk of these parts: a task's variables have a block, a command's ask can be asked, a refusal has a reply
+abbrev pub IsAnswerable : DeskParts → Content → Type 0
+IsAnswerable parts (contents.Request vars) = Unit {0}
+IsAnswerable parts (contents.Task vars body) = IsSome (vars_block vars)
+IsAnswerable parts (contents.Command ask) = CanBeAsked parts ask
+IsAnswerable parts (contents.Refused fault) = HasReply fault
 
 -- the content of a block that is in its grammar, or the place where it is not
 abbrev pub GivesContent : Options → Header → List ℕ → Result Content TakeFault → Type 0
@@ -70,9 +79,18 @@ GivesContent options head block (Err (takes.Refused (refusals.BadBlock at))) = b
 GivesContent options head block (Err takes.Memory) = Unit {0}
 GivesContent options head block (Err _) = ⊥
 
+-- the task of a block that is in its grammar, or the place where it is not
+abbrev pub GivesTask : List ℕ → Result Content TakeFault → Type 0
+GivesTask block (Ok (contents.Task vars body)) = IsTaskOf block vars body
+GivesTask block (Ok _) = ⊥
+GivesTask block (Err (takes.Refused (refusals.BadBlock at))) = broken_vars (vars_read block) ≡ Some at
+GivesTask block (Err takes.Memory) = Unit {0}
+GivesTask block (Err _) = ⊥
+
 -- the length of the body behind a content
 abbrev pub length_behind : Content → Option ℕ
 length_behind (contents.Request vars) = content_length (value_of vars (codes "CONTENT_LENGTH"))
+length_behind (contents.Task vars body) = Some 0
 length_behind (contents.Command ask) = Some 0
 length_behind (contents.Refused fault) = Some 0
 

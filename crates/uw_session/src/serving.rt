@@ -2,11 +2,12 @@
 ghost use Rattle.std.specs.Prelude.{◌≡◌, ◌<◌, ◌≤◌, ◌^◌, length, not, true, false, IfOk};
 ghost use Rattle.uw_outside.specs.Faults.{HasCause};
 ghost use Rattle.uw_outside.specs.Streams.{inflow, outflow};
-ghost use Rattle.uw_rules.specs.CacheNumbers.{AskCachesBelow};
+ghost use Rattle.uw_rules.specs.PartNumbers.{AskPartsBelow};
 ghost use Rattle.uw_rules.specs.Compiled.{rules_of};
 ghost use Rattle.uw_chain.specs.KeptSearches.{FitTable};
 ghost use Rattle.uw_session.specs.declared.faults.Form.TheVariants as forms;
-ghost use Rattle.uw_session.specs.Exchange.{IsSiteOf, Site, formed};
+ghost use Rattle.uw_chain.specs.Spooling.{both_led, kept_by};
+ghost use Rattle.uw_session.specs.Exchange.{HasParts, IsSiteOf, Site, formed};
 ghost use Rattle.uw_session.specs.Serving.{Serves, has_died_serving};
 ghost use Rattle.uw_session.specs.SessionSteps.{WritesReply};
 
@@ -18,6 +19,7 @@ use std::alloc::Global;
 use uw_base::{Bytes, Memory};
 use uw_chain::Searches;
 use uw_conf::Conf;
+use uw_keeper::Keeper;
 use uw_model::{AskList, Desk};
 use uw_outside::{Life, Sink, Source, put_all};
 use uw_packet::Packet;
@@ -64,7 +66,7 @@ fn write_reply<K: Sink>(
 
 /// Serves the next request of a source, at a moment in seconds, with the searches that are kept for the patterns of the
 /// rules: its packet is taken with its body, its asks are made, and its reply is written in its form.
-pub fn serve_with<'c, S: Source, K: Sink, L: Life, D: Desk>(
+pub fn serve_with<'c, S: Source, K: Sink, L: Life, D: Desk, P: Keeper>(
     alloc: Global,
     searches: &mut Searches<'c>,
     conf: &'c Conf,
@@ -74,17 +76,18 @@ pub fn serve_with<'c, S: Source, K: Sink, L: Life, D: Desk>(
     snk: &mut K,
     life: &mut L,
     desk: &mut D,
+    keep: &mut P,
 ) -> Result<Served, ServeFault>
     requires few { length conf.now.caches < 2 ^ 32 }
-    requires enough { length conf.now.caches ≤ D.caches desk.old }
-    requires known { AskCachesBelow (D.caches desk.old) (rules_of conf.now.routes) }
+    requires enough { HasParts (D.parts desk.old) conf.now }
+    requires known { AskPartsBelow (D.parts desk.old) (rules_of conf.now.routes) }
     requires fits { FitTable conf.now.routes searches.old }
     requires alive { L.alive life.old ≡ true }
     ensures serves { (site : Site) → IsSiteOf conf.now site → Serves site form moment
         (record {
           src = inflow S.left S.ended S.faults src.old src.new;
           snk = outflow K.taken K.faults snk.old snk.new;
-          led = D.leads desk.old desk.new;
+          led = both_led (D.leads desk.old desk.new) (kept_by P.rows P.append_faults P.other_faults keep.old keep.new);
           before = L.allowances life.old;
           now = L.allowances life.new;
         }) result }
@@ -93,7 +96,7 @@ pub fn serve_with<'c, S: Source, K: Sink, L: Life, D: Desk>(
     ensures writes { K.faults snk.old ≤ K.faults snk.new }
     ensures cause { HasCause (L.deaths life.old) (L.deaths life.new) (has_died_serving result) }
     ensures alive { L.alive life.new ≡ not (has_died_serving result) }
-    ensures caches { D.caches desk.new ≡ D.caches desk.old }
+    ensures parts { D.parts desk.new ≡ D.parts desk.old }
     ensures settled { D.settled desk.old ≡ true → has_died_serving result ≡ false → D.settled desk.new ≡ true }
 {
     let (packet, content) = match take_packet(alloc, conf, src) {
@@ -102,14 +105,14 @@ pub fn serve_with<'c, S: Source, K: Sink, L: Life, D: Desk>(
         Err(fault) => return Err(unasked(alloc, fault)),
     };
     let m2 = packet.head.m2;
-    match answer_content(alloc, searches, conf, moment, m2, content, life, desk) {
+    match answer_content(alloc, searches, conf, moment, m2, content, life, desk, keep) {
         Ok(answered) => write_reply(alloc, form, packet, moment, answered, snk),
         Err(fault) => Err(broken_off(fault)),
     }
 }
 
 /// Serves the next request of a source: as `serve_with`, with searches that are made for this request alone.
-pub fn serve_one<S: Source, K: Sink, L: Life, D: Desk>(
+pub fn serve_one<S: Source, K: Sink, L: Life, D: Desk, P: Keeper>(
     alloc: Global,
     conf: &Conf,
     form: Form,
@@ -118,16 +121,17 @@ pub fn serve_one<S: Source, K: Sink, L: Life, D: Desk>(
     snk: &mut K,
     life: &mut L,
     desk: &mut D,
+    keep: &mut P,
 ) -> Result<Served, ServeFault>
     requires few { length conf.now.caches < 2 ^ 32 }
-    requires enough { length conf.now.caches ≤ D.caches desk.old }
-    requires known { AskCachesBelow (D.caches desk.old) (rules_of conf.now.routes) }
+    requires enough { HasParts (D.parts desk.old) conf.now }
+    requires known { AskPartsBelow (D.parts desk.old) (rules_of conf.now.routes) }
     requires alive { L.alive life.old ≡ true }
     ensures serves { (site : Site) → IsSiteOf conf.now site → Serves site form moment
         (record {
           src = inflow S.left S.ended S.faults src.old src.new;
           snk = outflow K.taken K.faults snk.old snk.new;
-          led = D.leads desk.old desk.new;
+          led = both_led (D.leads desk.old desk.new) (kept_by P.rows P.append_faults P.other_faults keep.old keep.new);
           before = L.allowances life.old;
           now = L.allowances life.new;
         }) result }
@@ -135,7 +139,7 @@ pub fn serve_one<S: Source, K: Sink, L: Life, D: Desk>(
     ensures writes { K.faults snk.old ≤ K.faults snk.new }
     ensures cause { HasCause (L.deaths life.old) (L.deaths life.new) (has_died_serving result) }
     ensures alive { L.alive life.new ≡ not (has_died_serving result) }
-    ensures caches { D.caches desk.new ≡ D.caches desk.old }
+    ensures parts { D.parts desk.new ≡ D.parts desk.old }
     ensures settled { D.settled desk.old ≡ true → has_died_serving result ≡ false → D.settled desk.new ≡ true }
 {
     match Searches::new(alloc, &conf.routes) {
@@ -149,6 +153,7 @@ pub fn serve_one<S: Source, K: Sink, L: Life, D: Desk>(
             snk,
             life,
             desk,
+            keep,
         ),
         Err(_) => Err(ServeFault::Memory {
             done: AskList::new(alloc),

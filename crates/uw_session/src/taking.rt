@@ -1,14 +1,16 @@
 // A packet is taken from a source: its header, its block and its body, each judged before the next is read.
-ghost use Rattle.std.specs.Prelude.{◌≡◌, ◌<◌, ◌≤◌, ◌^◌, length, None, IfOk, IfSome};
+ghost use Rattle.std.specs.Prelude.{◌≡◌, ◌<◌, ◌≤◌, ◌^◌, length, false, None, IfOk, IfSome};
 ghost use Rattle.uw_outside.specs.Streams.{inflow};
-ghost use Rattle.uw_conf.specs.Given.{options_in};
-ghost use Rattle.uw_session.specs.Exchange.{header_refusal};
-ghost use Rattle.uw_session.specs.SessionSteps.{GivesContent, GivesLength, IsAnswerable, IsJudged, TakesHeader, TakesPacket, take_fault_of};
+ghost use Rattle.uw_model.specs.Asks.{DeskParts};
+ghost use Rattle.uw_conf.specs.Given.{options_in, parts_in};
+ghost use Rattle.uw_session.specs.Exchange.{header_refusal, is_request, is_task};
+ghost use Rattle.uw_session.specs.SessionSteps.{GivesContent, GivesTask, GivesLength, IsAnswerable, IsJudged, TakesHeader, TakesPacket, take_fault_of};
 
 use crate::faults::Refusal;
 use std::alloc::Global;
-use uw_base::{Memory, Vars, read_decimal};
+use uw_base::{Bytes, Memory, Vars, read_decimal};
 use uw_cachecmd::{CmdFault, command};
+use uw_chain::task_of;
 use uw_conf::Conf;
 use uw_model::Ask;
 use uw_outside::Source;
@@ -22,6 +24,8 @@ const MOST_BODY: u64 = 1 << 30;
 pub enum Content {
     /// A request with these variables.
     Request { vars: Vars },
+    /// A task to be put aside: its variables and its body.
+    Task { vars: Vars, body: Bytes },
     /// A command that asks.
     Command { ask: Ask },
     /// A command that is refused, and not for its block.
@@ -57,7 +61,7 @@ fn judge_header(conf: &Conf, head: &Header) -> Result<(), Refusal>
         return Err(Refusal::TooBig { size, limit });
     }
     match (head.m1, head.m2) {
-        (0, _) | (111, 0 | 1 | 2 | 200) => Ok(()),
+        (0 | 17, _) | (111, 0 | 1 | 2 | 200) => Ok(()),
         (m1, m2) => Err(Refusal::NoModifier { m1, m2 }),
     }
 }
@@ -81,14 +85,42 @@ pub fn content_of(alloc: Global, conf: &Conf, packet: &Packet) -> Result<Content
     requires short { length packet.now.block < 2 ^ 16 }
     requires few { length conf.now.caches < 2 ^ 32 }
     ensures content { GivesContent (options_in conf.now) packet.now.head packet.now.block result }
-    ensures answerable { IfOk result (λ content. IsAnswerable (length conf.now.caches) content) }
+    ensures answerable { IfOk result (IsAnswerable (parts_in conf.now)) }
 {
-    if packet.head.m1 == 0 {
-        return match read_vars(alloc, packet.block.as_slice()) {
+    match packet.head.m1 {
+        0 => match read_vars(alloc, packet.block.as_slice()) {
             Ok(vars) => Ok(Content::Request { vars }),
             Err(fault) => Err(take_fault(fault)),
-        };
+        },
+        17 => task_in(alloc, packet.block.as_slice()),
+        _ => command_in(alloc, conf, packet),
     }
+}
+
+// The task that a block says.
+fn task_in(alloc: Global, block: &[u8]) -> Result<Content, TakeFault>
+    requires short { length block.now < 2 ^ 16 }
+    ensures content { GivesTask block.now result }
+    ensures answerable { (parts : DeskParts) → IfOk result (IsAnswerable parts) }
+{
+    match read_vars(alloc, block) {
+        Ok(pairs) => {
+            let (vars, body) = task_of(alloc, &pairs)?;
+            Ok(Content::Task { vars, body })
+        }
+        Err(fault) => Err(take_fault(fault)),
+    }
+}
+
+// The command that a block says.
+fn command_in(alloc: Global, conf: &Conf, packet: &Packet) -> Result<Content, TakeFault>
+    requires accepted { header_refusal (options_in conf.now) packet.now.head ≡ None }
+    requires other { (is_request packet.now.head ≡ false) × (is_task packet.now.head ≡ false) }
+    requires short { length packet.now.block < 2 ^ 16 }
+    requires few { length conf.now.caches < 2 ^ 32 }
+    ensures content { GivesContent (options_in conf.now) packet.now.head packet.now.block result }
+    ensures answerable { IfOk result (IsAnswerable (parts_in conf.now)) }
+{
     match command(
         alloc,
         packet.head.m2,
@@ -145,7 +177,7 @@ pub fn take_packet<S: Source>(
 ) -> Result<Option<(Packet, Content)>, TakeFault>
     requires few { length conf.now.caches < 2 ^ 32 }
     ensures taken { TakesPacket (options_in conf.now) (inflow S.left S.ended S.faults src.old src.new) result }
-    ensures answerable { IfOk result (λ taken. IfSome taken (λ packet. IsAnswerable (length conf.now.caches) packet.1)) }
+    ensures answerable { IfOk result (λ taken. IfSome taken (λ packet. IsAnswerable (parts_in conf.now) packet.1)) }
     ensures later { S.faults src.old ≤ S.faults src.new }
 {
     let head = match take_header(conf, src) {

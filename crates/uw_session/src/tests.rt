@@ -1,8 +1,10 @@
 // Requests over sources, sinks and desks in memory.
 ghost use Rattle.std.specs.Prelude.{◌≡◌, ◌<◌, ◌≤◌, ◌^◌, length, IfOk};
-ghost use Rattle.uw_rules.specs.CacheNumbers.{AskCachesBelow};
+ghost use Rattle.uw_keeper.specs.Rows.{AreRows};
 ghost use Rattle.uw_rules.specs.Compiled.{rules_of};
-ghost use Rattle.uw_conf.specs.Sound.{AreCaches};
+ghost use Rattle.uw_rules.specs.PartNumbers.{AskPartsBelow};
+ghost use Rattle.uw_conf.specs.Given.{parts_in};
+ghost use Rattle.uw_conf.specs.Sound.{ArePartsOfSite};
 
 use crate::{Form, ServeFault, Served, answer_packet, serve_one, serve_with};
 use std::alloc::Global;
@@ -11,6 +13,7 @@ use std::test::Fail;
 use uw_base::{Bytes, Memory};
 use uw_chain::Searches;
 use uw_conf::{Conf, ConfError, read_conf};
+use uw_keeper::{MemKeeper, Row};
 use uw_model::ListDesk;
 use uw_outside::{BytesIn, BytesOut, Immortal};
 use uw_packet::{Header, Packet};
@@ -245,8 +248,8 @@ const CASES: [Case; 20] = [
 
 // What a text says, which is no refused one.
 fn conf_of(rt: &impl Abort, alloc: Global, text: &[u8]) -> Result<Conf, Memory>
-    ensures caches { IfOk result (λ conf. AreCaches conf.caches) }
-    ensures known { IfOk result (λ conf. AskCachesBelow (length conf.caches) (rules_of conf.routes)) }
+    ensures parts { IfOk result (λ conf. ArePartsOfSite conf.caches conf.areas) }
+    ensures known { IfOk result (λ conf. AskPartsBelow (parts_in conf) (rules_of conf.routes)) }
 {
     assert!(rt; text.len() < 1_000_000);
     let mut make = RegexPatterns::new(Vec::new(alloc));
@@ -265,13 +268,18 @@ fn served(
     src: &mut BytesIn,
     snk: &mut BytesOut,
 ) -> Result<[Outcome; 2], Memory>
-    requires caches { AreCaches conf.now.caches }
-    requires known { AskCachesBelow (length conf.now.caches) (rules_of conf.now.routes) }
+    requires parts { ArePartsOfSite conf.now.caches conf.now.areas }
+    requires known { AskPartsBelow (parts_in conf.now) (rules_of conf.now.routes) }
 {
-    let mut desk = ListDesk::new(alloc, &conf.caches)?;
+    let mut desk = ListDesk::new(alloc, &conf.caches, &conf.areas)?;
+    let mut keep = MemKeeper::new(Vec::new(alloc), Vec::new(alloc));
     let mut life = Immortal::new();
-    let first = serve_one(alloc, conf, form, 10, src, snk, &mut life, &mut desk);
-    let second = serve_one(alloc, conf, form, 10, src, snk, &mut life, &mut desk);
+    let first = serve_one(
+        alloc, conf, form, 10, src, snk, &mut life, &mut desk, &mut keep,
+    );
+    let second = serve_one(
+        alloc, conf, form, 10, src, snk, &mut life, &mut desk, &mut keep,
+    );
     Ok([outcome_of(&first), outcome_of(&second)])
 }
 
@@ -283,10 +291,11 @@ fn served_with_kept_searches(
     src: &mut BytesIn,
     snk: &mut BytesOut,
 ) -> Result<[Outcome; 2], Memory>
-    requires caches { AreCaches conf.now.caches }
-    requires known { AskCachesBelow (length conf.now.caches) (rules_of conf.now.routes) }
+    requires parts { ArePartsOfSite conf.now.caches conf.now.areas }
+    requires known { AskPartsBelow (parts_in conf.now) (rules_of conf.now.routes) }
 {
-    let mut desk = ListDesk::new(alloc, &conf.caches)?;
+    let mut desk = ListDesk::new(alloc, &conf.caches, &conf.areas)?;
+    let mut keep = MemKeeper::new(Vec::new(alloc), Vec::new(alloc));
     let mut searches = Searches::new(alloc, &conf.routes)?;
     let mut life = Immortal::new();
     let first = serve_with(
@@ -299,6 +308,7 @@ fn served_with_kept_searches(
         snk,
         &mut life,
         &mut desk,
+        &mut keep,
     );
     let second = serve_with(
         alloc,
@@ -310,6 +320,7 @@ fn served_with_kept_searches(
         snk,
         &mut life,
         &mut desk,
+        &mut keep,
     );
     Ok([outcome_of(&first), outcome_of(&second)])
 }
@@ -363,7 +374,8 @@ fn a_packet_is_answered_without_a_source_or_a_sink(rt: HostRuntime) -> Result<()
     let alloc = rt.alloc();
     let conf = conf_of(&rt, alloc, HITS)?;
     assert_eq!(rt; conf.buffer_size, 4096);
-    let mut desk = ListDesk::new(alloc, &conf.caches)?;
+    let mut desk = ListDesk::new(alloc, &conf.caches, &conf.areas)?;
+    let mut keep = MemKeeper::new(Vec::new(alloc), Vec::new(alloc));
     let mut searches = Searches::new(alloc, &conf.routes)?;
     let packet = Packet {
         head: Header {
@@ -382,12 +394,150 @@ fn a_packet_is_answered_without_a_source_or_a_sink(rt: HostRuntime) -> Result<()
         &packet,
         &mut life,
         &mut desk,
+        &mut keep,
     ) {
         Ok(answered) => {
             assert_eq!(rt; answered.reply.as_slice(), FIRST_HIT);
             assert_eq!(rt; answered.asks.as_slice().len(), 1);
         }
         Err(_) => panic!(rt; "no reply"),
+    }
+    Ok(())
+}
+
+// A task of a source: the number of the last row, 0 where there is none, the calls of the keeper that fail, the input, what
+// is written, and the bytes of the last row behind it.
+#[derive(Clone, Copy)]
+struct Put {
+    last: u64,
+    fails: &'static [u64],
+    input: &'static [u8],
+    output: &'static [u8],
+    row: &'static [u8],
+}
+
+// A task without a body, over a keeper without a row.
+const PUT: Put = Put {
+    last: 0,
+    fails: &[],
+    input: b"\x11\x0c\x00\x00\x04\x00kind\x04\x00done",
+    output: b"ok 00000000000000000001",
+    row: b"\x11\x0c\x00\x00\x04\x00kind\x04\x00done",
+};
+
+const PUTS: [Put; 7] = [
+    PUT,
+    Put {
+        last: 41,
+        output: b"ok 00000000000000000042",
+        ..PUT
+    },
+    // A body is left out of the variables; of two, the value of the last one is the body.
+    Put {
+        input: b"\x11\x16\x00\x05\x04\x00body\x02\x00xy\x04\x00kind\x04\x00done",
+        row: b"\x11\x0c\x00\x00\x04\x00kind\x04\x00donexy",
+        ..PUT
+    },
+    Put {
+        input: b"\x11\x1f\x00\x00\x04\x00body\x02\x00xy\x04\x00kind\x04\x00done\x04\x00body\x01\x00z",
+        row: b"\x11\x0c\x00\x00\x04\x00kind\x04\x00donez",
+        ..PUT
+    },
+    // What is refused, or fails.
+    Put {
+        input: b"\x11\x03\x00\x00\x01\x00k",
+        output: b"",
+        row: b"",
+        ..PUT
+    },
+    Put {
+        fails: &[1],
+        output: b"failed",
+        row: b"",
+        ..PUT
+    },
+    Put {
+        last: u64::MAX,
+        output: b"no number",
+        row: b"",
+        ..PUT
+    },
+];
+
+// The row of a number from 1 on, without bytes; none for 0.
+fn rows_of(alloc: Global, number: u64) -> Result<Vec<Row>, Memory>
+    ensures { IfOk result (λ rows. AreRows rows.items) }
+{
+    if number == 0 {
+        return Ok(Vec::new(alloc));
+    }
+    let row = Row {
+        number,
+        bytes: Bytes::new(alloc),
+    };
+    Ok(Vec::from_array(alloc, [row])?)
+}
+
+// What is written for the task, and the bytes of the last row behind it; no byte where there is no row.
+#[derive(Drop)]
+struct Left {
+    output: Vec<u8>,
+    row: Vec<u8>,
+}
+
+// Serves a request with a keeper.
+fn served_with_keeper(
+    alloc: Global,
+    conf: &Conf,
+    src: &mut BytesIn,
+    snk: &mut BytesOut,
+    keep: &mut MemKeeper,
+) -> Result<(), Memory>
+    requires parts { ArePartsOfSite conf.now.caches conf.now.areas }
+    requires known { AskPartsBelow (parts_in conf.now) (rules_of conf.now.routes) }
+{
+    let mut desk = ListDesk::new(alloc, &conf.caches, &conf.areas)?;
+    let mut life = Immortal::new();
+    let _ = serve_one(
+        alloc,
+        conf,
+        Form::Raw,
+        10,
+        src,
+        snk,
+        &mut life,
+        &mut desk,
+        keep,
+    );
+    Ok(())
+}
+
+fn put_aside(alloc: Global, conf: &Conf, case: &Put) -> Result<Left, Memory>
+    requires parts { ArePartsOfSite conf.now.caches conf.now.areas }
+    requires known { AskPartsBelow (parts_in conf.now) (rules_of conf.now.routes) }
+{
+    let mut src = BytesIn::new(case.input.to_vec(alloc)?, Vec::new(alloc));
+    let mut snk = BytesOut::new(Vec::new(alloc), Vec::new(alloc));
+    let mut keep = MemKeeper::new(rows_of(alloc, case.last)?, case.fails.to_vec(alloc)?);
+    served_with_keeper(alloc, conf, &mut src, &mut snk, &mut keep)?;
+    let row = match keep.rows().last() {
+        Some(row) => row.bytes.as_slice().to_vec(alloc)?,
+        None => Vec::new(alloc),
+    };
+    Ok(Left {
+        output: snk.taken().to_vec(alloc)?,
+        row,
+    })
+}
+
+#[test]
+fn tasks_are_put_aside(rt: HostRuntime) -> Result<(), Fail> {
+    let alloc = rt.alloc();
+    let conf = conf_of(&rt, alloc, HITS)?;
+    for (number, case) in PUTS.iter().enumerate() {
+        let left = put_aside(alloc, &conf, case)?;
+        assert_eq!(rt; left.output.as_slice(), case.output, "task {number}");
+        assert_eq!(rt; left.row.as_slice(), case.row, "task {number}");
     }
     Ok(())
 }

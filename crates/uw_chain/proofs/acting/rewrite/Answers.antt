@@ -10,7 +10,7 @@ returns c =
     let place = c.as_slice.result.now in
     let path = c.cut.result.0.now in
     let text = filled_within c.args.to.now request.vars c.args.captures.now c.args.moment in
-    let is_text : text ≡ Some place = sym c.in_ok-text.ensures ∙ c.in-Some.is ∙ ap (λ (one : List ℕ). Some one) (sym c.as_slice.ensures) in
+    let is_text : text ≡ Some place = sym c.in_ok-text.ensures.filled ∙ c.in-Some.is ∙ ap (λ (one : List ℕ). Some one) (sym c.as_slice.ensures) in
     elim c.match-query.branch [
       | in-Some-query+in_ok-set-2 w ↦
           let found = rw w.in-Some-query.is at c.cut.ensures.found in

@@ -1,7 +1,8 @@
 use Rattle.std.proofs.Common.{◌<◌, ◌∙◌, ◌+◌, refl, length, arith}
 use Rattle.std.proofs.lemmas.Result.{err_from_is_err_and}
 use Rattle.uw_chain.specs.declared.outcome.Outcome.TheVariants as outcomes
-use Rattle.uw_chain.proofs.RouteLemmas.{asks_at, jump_goes_on, none_died, passes_ends, passes_fault, passes_memory, passes_over, passes_rule, slot_at, slot_set, slots_length}
+use Rattle.uw_chain.proofs.RouteLemmas.{asks_at, jump_goes_on, none_died, passes_ends, passes_fault, passes_over, passes_rule, slot_at, slot_set, slots_length}
+use Rattle.uw_chain.proofs.SpoolLemmas.{site, site_more, site_none}
 use Rattle.uw_chain.proofs.routing.run_rules.Goals as goal
 
 pub rules-init : goal.rules-init
@@ -9,7 +10,7 @@ rules-init g c = record {
   fits = c.requires.fits;
   alive = c.requires.alive;
   deaths = refl;
-  caches = refl;
+  parts = refl;
   settled = λ settled. settled;
   passes = λ naming written are later told after result runs. runs;
 }
@@ -23,8 +24,8 @@ run_rule-requires-clause-fits g c =
 
 pub run_rule-requires-clause-known : goal.run_rule-requires-clause-known
 run_rule-requires-clause-known g c =
-    rw c.rules.invariant.caches
-    (asks_at (g.D.Desk.caches c.args.desk.now) c.args.rules.now c.rules.at c.index-rules-at.result c.requires.known c.rules-test.true c.index-rules-at.is)
+    rw c.rules.invariant.parts
+    (asks_at (g.D.Desk.parts c.args.desk.now) c.args.rules.now c.rules.at c.index-rules-at.result c.requires.known c.rules-test.true c.index-rules-at.is)
 
 pub run_rule-requires-clause-alive : goal.run_rule-requires-clause-alive
 run_rule-requires-clause-alive g c = c.rules.invariant.alive
@@ -34,7 +35,7 @@ returns-in_err-changed-clause-runs g c = λ naming written are.
     let end = err_from_is_err_and c.from_residual.result c.from_residual.ensures.1 in
     let life = g.L.Life.allowances in
     rw (end.1, end.2)
-    (passes_fault g.D.Desk.leads c.args.desk.now c.rules.desk c.run_rule.new.desk (life c.args.life.now) (life c.rules.life) (life c.run_rule.new.life)
+    (passes_fault (site g.D.Desk.leads g.P.Keeper.rows g.P.Keeper.append_faults g.P.Keeper.other_faults) (c.args.desk.now, c.args.keep.now) (c.rules.desk, c.rules.keep) (c.run_rule.new.desk, c.run_rule.new.keep) (life c.args.life.now) (life c.rules.life) (life c.run_rule.new.life)
     c.args.moment c.args.rules.now c.args.first c.rules.request c.rules.at c.args.asks.now c.rules.asks c.run_rule.new.asks c.index-rules-at.result
     c.in_err-changed.field-0.0 c.rules-test.true c.index-rules-at.is c.in_err-changed.ensures.runs c.rules.invariant.passes naming written are)
 
@@ -48,8 +49,8 @@ returns-in_err-changed-clause-cause g c =
     let end = err_from_is_err_and c.from_residual.result c.from_residual.ensures.1 in
     rw (end.1, end.2, ← c.rules.invariant.deaths) c.in_err-changed.ensures.cause
 
-pub returns-in_err-changed-clause-caches : goal.returns-in_err-changed-clause-caches
-returns-in_err-changed-clause-caches g c = c.in_err-changed.ensures.caches ∙ c.rules.invariant.caches
+pub returns-in_err-changed-clause-parts : goal.returns-in_err-changed-clause-parts
+returns-in_err-changed-clause-parts g c = c.in_err-changed.ensures.parts ∙ c.rules.invariant.parts
 
 pub returns-in_err-changed-clause-settled : goal.returns-in_err-changed-clause-settled
 returns-in_err-changed-clause-settled g c =
@@ -66,10 +67,12 @@ rules-preserved-in-GoesOn g c =
           c.index-rules-at.is c.in_ok-changed.ensures.fits;
       alive = c.in_ok-changed.ensures.alive;
       deaths = c.in_ok-changed.ensures.cause.kept refl ∙ c.rules.invariant.deaths;
-      caches = c.in_ok-changed.ensures.caches ∙ c.rules.invariant.caches;
+      parts = c.in_ok-changed.ensures.parts ∙ c.rules.invariant.parts;
       settled = λ settled. c.in_ok-changed.ensures.settled (c.rules.invariant.settled settled) refl;
       passes =
-          passes_rule g.D.Desk.leads g.met.D.Desk.leads_more c.args.desk.now c.rules.desk c.run_rule.new.desk (life c.args.life.now) (life c.rules.life)
+          passes_rule (site g.D.Desk.leads g.P.Keeper.rows g.P.Keeper.append_faults g.P.Keeper.other_faults)
+          (site_more g.D.Desk.leads g.P.Keeper.rows g.P.Keeper.append_faults g.P.Keeper.other_faults g.met.D.Desk.leads_more)
+          (c.args.desk.now, c.args.keep.now) (c.rules.desk, c.rules.keep) (c.run_rule.new.desk, c.run_rule.new.keep) (life c.args.life.now) (life c.rules.life)
           (life c.run_rule.new.life) c.args.moment c.args.rules.now c.args.first c.rules.request c.in-GoesOn.changed c.rules.at (c.rules.at + 1)
           c.args.asks.now c.rules.asks c.run_rule.new.asks c.index-rules-at.result (outcomes.GoesOn c.in-GoesOn.changed) c.rules-test.true c.index-rules-at.is
           ran (λ naming written. refl) c.rules.invariant.passes;
@@ -85,10 +88,12 @@ rules-preserved g c =
           c.index-rules-at.is c.in_ok-changed.ensures.fits;
       alive = c.in_ok-changed.ensures.alive;
       deaths = c.in_ok-changed.ensures.cause.kept refl ∙ c.rules.invariant.deaths;
-      caches = c.in_ok-changed.ensures.caches ∙ c.rules.invariant.caches;
+      parts = c.in_ok-changed.ensures.parts ∙ c.rules.invariant.parts;
       settled = λ settled. c.in_ok-changed.ensures.settled (c.rules.invariant.settled settled) refl;
       passes =
-          passes_rule g.D.Desk.leads g.met.D.Desk.leads_more c.args.desk.now c.rules.desk c.run_rule.new.desk (life c.args.life.now) (life c.rules.life)
+          passes_rule (site g.D.Desk.leads g.P.Keeper.rows g.P.Keeper.append_faults g.P.Keeper.other_faults)
+          (site_more g.D.Desk.leads g.P.Keeper.rows g.P.Keeper.append_faults g.P.Keeper.other_faults g.met.D.Desk.leads_more)
+          (c.args.desk.now, c.args.keep.now) (c.rules.desk, c.rules.keep) (c.run_rule.new.desk, c.run_rule.new.keep) (life c.args.life.now) (life c.rules.life)
           (life c.run_rule.new.life) c.args.moment c.args.rules.now c.args.first c.rules.request c.in-Jumps.changed c.rules.at c.max-at.result
           c.args.asks.now c.rules.asks c.run_rule.new.asks c.index-rules-at.result (outcomes.Jumps c.in-Jumps.number c.in-Jumps.changed) c.rules-test.true
           c.index-rules-at.is ran
@@ -100,9 +105,9 @@ pub returns-in-Ends-clause-runs : goal.returns-in-Ends-clause-runs
 returns-in-Ends-clause-runs g c = λ naming written are.
     let ran = rw c.in-Ends.is at c.in_ok-changed.ensures.runs in
     let life = g.L.Life.allowances in
-    passes_ends g.D.Desk.leads c.args.desk.now c.rules.desk c.run_rule.new.desk (life c.args.life.now) (life c.rules.life) (life c.run_rule.new.life)
+    passes_ends (site g.D.Desk.leads g.P.Keeper.rows g.P.Keeper.append_faults g.P.Keeper.other_faults) (c.args.desk.now, c.args.keep.now) (c.rules.desk, c.rules.keep) (c.run_rule.new.desk, c.run_rule.new.keep) (life c.args.life.now) (life c.rules.life) (life c.run_rule.new.life)
     c.args.moment c.args.rules.now c.args.first c.rules.request c.rules.at c.args.asks.now c.rules.asks c.run_rule.new.asks c.index-rules-at.result
-    c.in-Ends.ending c.rules-test.true c.index-rules-at.is ran c.rules.invariant.passes naming written are
+    c.in-Ends.ending c.in-Ends.request c.rules-test.true c.index-rules-at.is ran c.rules.invariant.passes naming written are
 
 pub returns-in-Ends-clause-fits : goal.returns-in-Ends-clause-fits
 returns-in-Ends-clause-fits g c =
@@ -112,45 +117,18 @@ returns-in-Ends-clause-fits g c =
 pub returns-in-Ends-clause-cause : goal.returns-in-Ends-clause-cause
 returns-in-Ends-clause-cause g c = rw (← c.rules.invariant.deaths) c.in_ok-changed.ensures.cause
 
-pub returns-in-Ends-clause-caches : goal.returns-in-Ends-clause-caches
-returns-in-Ends-clause-caches g c = c.in_ok-changed.ensures.caches ∙ c.rules.invariant.caches
+pub returns-in-Ends-clause-parts : goal.returns-in-Ends-clause-parts
+returns-in-Ends-clause-parts g c = c.in_ok-changed.ensures.parts ∙ c.rules.invariant.parts
 
 pub returns-in-Ends-clause-settled : goal.returns-in-Ends-clause-settled
 returns-in-Ends-clause-settled g c = λ settled alive. c.in_ok-changed.ensures.settled (c.rules.invariant.settled settled) refl
 
-pub returns-in_err-end_of_table-clause-runs : goal.returns-in_err-end_of_table-clause-runs
-returns-in_err-end_of_table-clause-runs g c = λ naming written are.
-    let end = err_from_is_err_and c.from_residual-in_err-end_of_table.result c.from_residual-in_err-end_of_table.ensures.1 in
-    let life = g.L.Life.allowances in
-    rw (end.1, end.2)
-    (passes_memory g.D.Desk.leads g.met.D.Desk.leads_none c.args.desk.now c.rules.desk (life c.args.life.now) (life c.rules.life) c.args.moment
-    c.args.rules.now c.args.first c.rules.request c.rules.at c.args.asks.now c.rules.asks c.rules.invariant.passes naming written are)
-
-pub returns-in_err-end_of_table-clause-fits : goal.returns-in_err-end_of_table-clause-fits
-returns-in_err-end_of_table-clause-fits g c = c.rules.invariant.fits
-
-pub returns-in_err-end_of_table-clause-cause : goal.returns-in_err-end_of_table-clause-cause
-returns-in_err-end_of_table-clause-cause g c =
-    let end = err_from_is_err_and c.from_residual-in_err-end_of_table.result c.from_residual-in_err-end_of_table.ensures.1 in
-    rw (end.1, end.2) (none_died (g.L.Life.deaths c.args.life.now) (g.L.Life.deaths c.rules.life) c.rules.invariant.deaths)
-
-pub returns-in_err-end_of_table-clause-alive : goal.returns-in_err-end_of_table-clause-alive
-returns-in_err-end_of_table-clause-alive g c =
-    let end = err_from_is_err_and c.from_residual-in_err-end_of_table.result c.from_residual-in_err-end_of_table.ensures.1 in
-    rw (end.1, end.2) c.rules.invariant.alive
-
-pub returns-in_err-end_of_table-clause-caches : goal.returns-in_err-end_of_table-clause-caches
-returns-in_err-end_of_table-clause-caches g c = c.rules.invariant.caches
-
-pub returns-in_err-end_of_table-clause-settled : goal.returns-in_err-end_of_table-clause-settled
-returns-in_err-end_of_table-clause-settled g c = λ settled alive. c.rules.invariant.settled settled
-
 pub returns-clause-runs : goal.returns-clause-runs
 returns-clause-runs g c = λ naming written are.
     let life = g.L.Life.allowances in
-    passes_over g.D.Desk.leads g.met.D.Desk.leads_none c.args.desk.now c.rules.desk (life c.args.life.now) (life c.rules.life) c.args.moment
-    c.args.rules.now c.args.first c.rules.request c.rules.at c.args.asks.now c.rules.asks c.in_ok-end_of_table.field-0 c.rules-test.false
-    c.in_ok-end_of_table.ensures c.rules.invariant.passes naming written are
+    passes_over (site g.D.Desk.leads g.P.Keeper.rows g.P.Keeper.append_faults g.P.Keeper.other_faults)
+    (site_none g.D.Desk.leads g.P.Keeper.rows g.P.Keeper.append_faults g.P.Keeper.other_faults g.met.D.Desk.leads_none) (c.args.desk.now, c.args.keep.now) (c.rules.desk, c.rules.keep) (life c.args.life.now) (life c.rules.life) c.args.moment
+    c.args.rules.now c.args.first c.rules.request c.rules.at c.args.asks.now c.rules.asks c.rules-test.false c.rules.invariant.passes naming written are
 
 pub returns-clause-fits : goal.returns-clause-fits
 returns-clause-fits g c = c.rules.invariant.fits
@@ -161,8 +139,8 @@ returns-clause-cause g c = none_died (g.L.Life.deaths c.args.life.now) (g.L.Life
 pub returns-clause-alive : goal.returns-clause-alive
 returns-clause-alive g c = c.rules.invariant.alive
 
-pub returns-clause-caches : goal.returns-clause-caches
-returns-clause-caches g c = c.rules.invariant.caches
+pub returns-clause-parts : goal.returns-clause-parts
+returns-clause-parts g c = c.rules.invariant.parts
 
 pub returns-clause-settled : goal.returns-clause-settled
 returns-clause-settled g c = λ settled alive. c.rules.invariant.settled settled

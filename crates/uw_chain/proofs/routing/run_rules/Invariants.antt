@@ -1,6 +1,7 @@
 use Rattle.std.proofs.Common.{◌≡◌, ◌-◌, true, length}
 use Rattle.uw_chain.specs.KeptSearches.{FitSlots}
 use Rattle.uw_chain.proofs.RouteLemmas.{Passes}
+use Rattle.uw_chain.proofs.SpoolLemmas.{site}
 use Rattle.uw_chain.proofs.routing.run_rules.Given as goal
 
 -- the rules up to here were followed, and nobody died
@@ -9,9 +10,10 @@ invariant-rules g l = record {
   fits : FitSlots l.rules l.slots;
   alive : g.L.Life.alive l.life ≡ true;
   deaths : g.L.Life.deaths l.life ≡ g.L.Life.deaths l.fn.life;
-  caches : g.D.Desk.caches l.desk ≡ g.D.Desk.caches l.fn.desk;
+  parts : g.D.Desk.parts l.desk ≡ g.D.Desk.parts l.fn.desk;
   settled : g.D.Desk.settled l.fn.desk ≡ true → g.D.Desk.settled l.desk ≡ true;
-  passes : Passes g.D.Desk.leads l.fn.desk l.desk (g.L.Life.allowances l.fn.life) (g.L.Life.allowances l.life) l.moment l.rules l.fn.first l.request l.at l.fn.asks l.asks;
+  passes :
+      Passes (site g.D.Desk.leads g.P.Keeper.rows g.P.Keeper.append_faults g.P.Keeper.other_faults) (l.fn.desk, l.fn.keep) (l.desk, l.keep) (g.L.Life.allowances l.fn.life) (g.L.Life.allowances l.life) l.moment l.rules l.fn.first l.request l.at l.fn.asks l.asks;
 }
 
 abbrev pub decreases-rules : goal.decreases-rules
