@@ -11,7 +11,7 @@ use Rattle.uw_conf.specs.declared.conf.ConfFault.{ConfFault}
 use Rattle.uw_conf.specs.Configuration.{most_text_bytes}
 use Rattle.uw_ends.specs.declared.ends.RunFault.{RunFault}
 use Rattle.uw_ends.specs.declared.ends.RunFault.TheVariants as faults
-use Rattle.uw_conf.proofs.RouteCacheLemmas.{names_caches}
+use Rattle.uw_conf.proofs.RoutePartLemmas.{names_caches}
 use Rattle.uw_conf.specs.Given.{options_in}
 use Rattle.uw_session.specs.Exchange.{IsSiteOf, Site}
 use Rattle.uw_top.specs.Run.{ReadsText, IsSaid, IsSaidWithACache, Runs, site_of}
@@ -49,7 +49,9 @@ pub site_is : (before after : ℕ) (text : List ℕ) (conf : Conf) → IsSaid be
 site_is before after text conf said = record {
   options = refl;
   names = names_caches text (options_in conf) said.0;
-  rules = said.1;
+  rules = said.1.0;
+  task_names = names_caches text (options_in conf) said.0;
+  task_rules = said.1.1;
 }
 
 -- what is given for a command that needs a cache

@@ -1,8 +1,10 @@
-pub mod Packets
-pub mod LoadLemmas
-pub mod Machine
-pub mod Stopping
 pub mod Configuring
 pub mod Cutting
+pub mod LoadLemmas
+pub mod Machine
 pub mod OneWayLemmas
+pub mod Packets
+pub mod Parts
 pub mod SameEndLemmas
+pub mod SpoolLemmas
+pub mod Stopping

@@ -20,13 +20,16 @@ use Rattle.uw_model.specs.declared.asks.Ask.{Ask}
 use Rattle.uw_model.specs.declared.asks.Ask.TheVariants as asks
 use Rattle.uw_model.specs.declared.asks.AskAnswer.{AskAnswer}
 use Rattle.uw_model.specs.declared.asks.Asked.{Asked}
-use Rattle.uw_model.specs.Asks.{desk_asks}
+use Rattle.uw_model.specs.Asks.{Asking, answered_at, of_desk}
 use Rattle.uw_model.specs.ListState.{ListState}
-use Rattle.uw_model.specs.Caches.{LeadsLists, Lists, empty_caches}
+use Rattle.uw_model.specs.Caches.{empty_caches}
+use Rattle.uw_model.specs.Lists.{LeadsLists, Lists}
 use Rattle.uw_cachecmd.specs.declared.commands.CmdFault.{CmdFault}
 use Rattle.uw_cachecmd.specs.declared.commands.Kind.{Kind}
 use Rattle.uw_cachecmd.specs.Commands.{commanded, command_block_ask}
 use Rattle.uw_chain.specs.Courses.{Course, Unfolds, asking, ended}
+use Rattle.uw_keeper.specs.InMemory.{KeptRows}
+use Rattle.uw_chain.specs.Spooling.{both_led, kept_by}
 use Rattle.uw_conf.specs.declared.conf.Options.{Options}
 use Rattle.uw_conf.proofs.SizeLemmas.{AllByRecursion-push}
 use Rattle.uw_ends.specs.declared.ends.RunFault.{RunFault}
@@ -126,6 +129,27 @@ command_whole names read pairs e = rw e (commanded_whole _ _ _ _ _ _)
 generated_whole : (conf : Options) (x : ℕ) → x < 2 ^ 31 → broken_command (asked_by conf (head_for x) (block_for x)) ≡ None
 generated_whole conf x small = command_whole (names_of conf) (vars_read (block_for x)) (variables_for x) (pairs_read (variables_for x) (variables_short x small))
 
+-- a command asks a cache, or is refused
+abbrev AsksACache : Result Ask CmdFault → Type 0
+AsksACache (Ok (asks.Cache cache call)) = Unit {0}
+AsksACache (Ok (asks.Area area op)) = ⊥
+AsksACache (Ok (asks.Spool vars body)) = ⊥
+AsksACache (Err fault) = Unit {0}
+
+commanded_of_cache : (kind : Option Kind) (cache seconds : Option ℕ) (amount : Option ℤ) (key value : List ℕ) → AsksACache (commanded kind cache seconds amount key value)
+commanded_of_cache None cache seconds amount key value = tt
+commanded_of_cache (Some kind) None seconds amount key value = tt
+commanded_of_cache (Some kind) (Some cache) None amount key value = tt
+commanded_of_cache (Some kind) (Some cache) (Some ttl) None key value = tt
+commanded_of_cache (Some kind) (Some cache) (Some ttl) (Some by) key value = tt
+
+command_of_cache : (names : List (List ℕ)) (read : Result (List Pair) ℕ) → AsksACache (command_block_ask names read)
+command_of_cache names (Ok pairs) = commanded_of_cache _ _ _ _ _ _
+command_of_cache names (Err at) = tt
+
+generated_of_cache : (conf : Options) (x : ℕ) → AsksACache (asked_by conf (head_for x) (block_for x))
+generated_of_cache conf x = command_of_cache (names_of conf) (vars_read (block_for x))
+
 -- a generated packet whose header is accepted is whole
 generated_is_whole : (conf : Options) (moment x : ℕ) → x < 2 ^ 31 → header_refusal conf (head_for x) ≡ None → IsAccepted conf (packet_for moment x)
 generated_is_whole conf moment x small accepted = record {
@@ -162,10 +186,10 @@ reply_told (asking ask more) = []
 -- one ask was made
 one_asked : (lists after : Lists) (moment m2 cache : ℕ) (call : Call) (ask : Ask) (answer : AskAnswer) (written : List ℕ)
     → ask ≡ asks.Cache cache call → ask_reply m2 answer ≡ written
-    → LeadsLists lists (desk_asks moment (record { ask = ask; answer = answer } ∷ []) ++ []) after
+    → LeadsLists lists (of_desk (answered_at moment (record { ask = ask; answer = answer } ∷ []) ++ [])) after
     → IsReply (replied lists.caches moment m2 (Ok (asks.Cache cache call))) (record { ask = ask; answer = answer } ∷ []) written after.caches
 one_asked lists after moment m2 cache call ask answer written same told led =
-    let Leading : Ask → Type 0 = λ one. LeadsLists lists (desk_asks moment (record { ask = one; answer = answer } ∷ []) ++ []) after in
+    let Leading : Ask → Type 0 = λ one. LeadsLists lists (of_desk (answered_at moment (record { ask = one; answer = answer } ∷ []) ++ [])) after in
     let led_on : Leading (asks.Cache cache call) = subst Leading same led in
     record {
       text = sym told ∙ ap (λ (a : AskAnswer). ask_reply m2 a) led_on.0;
@@ -173,43 +197,56 @@ one_asked lists after moment m2 cache call ask answer written same told led =
       caches = ap (λ (l : Lists). l.caches) led_on.1;
     }
 
-command_replied : (lists after : Lists) (moment m2 : ℕ) (command : Result Ask CmdFault) (asked : List Asked) (written : List ℕ)
-    → Unfolds (course_of_command m2 command) asked (ended written) → LeadsLists lists (desk_asks moment asked ++ []) after
+command_replied : (lists after : Lists) (moment m2 : ℕ) (command : Result Ask CmdFault) (asked : List Asked) (written : List ℕ) → AsksACache command
+    → Unfolds (course_of_command m2 command) asked (ended written) → LeadsLists lists (of_desk (answered_at moment asked ++ [])) after
     → IsReply (replied lists.caches moment m2 command) asked written after.caches
-command_replied lists after moment m2 (Ok (asks.Cache cache call)) [] written course led = absurd (none-some written (ap end_told course))
-command_replied lists after moment m2 (Ok (asks.Cache cache call)) (a ∷ []) written course led =
+command_replied lists after moment m2 (Ok (asks.Cache cache call)) [] written of_cache course led = absurd (none-some written (ap end_told course))
+command_replied lists after moment m2 (Ok (asks.Cache cache call)) (a ∷ []) written of_cache course led =
     one_asked lists after moment m2 cache call a.ask a.answer written course.0 (ap reply_told course.1) led
-command_replied lists after moment m2 (Ok (asks.Cache cache call)) (a ∷ b ∷ more) written course led = absurd course.1
-command_replied lists after moment m2 (Err fault) [] written course led =
+command_replied lists after moment m2 (Ok (asks.Cache cache call)) (a ∷ b ∷ more) written of_cache course led = absurd course.1
+command_replied lists after moment m2 (Ok (asks.Area area op)) asked written of_cache course led = absurd of_cache
+command_replied lists after moment m2 (Ok (asks.Spool vars body)) asked written of_cache course led = absurd of_cache
+command_replied lists after moment m2 (Err fault) [] written of_cache course led =
     record { text = sym (ap reply_told course); answer = refl; caches = ap (λ (l : Lists). l.caches) led }
-command_replied lists after moment m2 (Err fault) (a ∷ more) written course led = absurd course
+command_replied lists after moment m2 (Err fault) (a ∷ more) written of_cache course led = absurd course
+
+-- which asks lead plain lists from which to which, and beside them a keeper
+abbrev pub beside : Lists → Lists → (List Asking → Type 0) → List Asking → ℕ → Type 0
+beside lists after kept asked writes = both_led (list_leads lists after) kept asked writes
+
+-- tasks led a keeper in memory on
+abbrev pub kept_in_memory : KeptRows → KeptRows → List Asking → Type 0
+kept_in_memory before now asked = kept_by (λ (k : KeptRows). Some k.rows) (λ (k : KeptRows). k.append_faults) (λ (k : KeptRows). k.other_faults) before now asked
 
 -- what an immortal worker did with a packet over plain lists
-abbrev Answering : Lists → Lists → Site → ℕ → Header → List ℕ → Result Answered ServeFault → Type 0
-Answering lists after site moment head block result = AnswersPacket (list_leads lists after) unbounded unbounded site moment head block result
+abbrev Answering : Lists → Lists → (List Asking → Type 0) → Site → ℕ → Header → List ℕ → Result Answered ServeFault → Type 0
+Answering lists after kept site moment head block result = AnswersPacket (beside lists after kept) unbounded unbounded site moment head block result
 
 -- the same of a packet that is the generated one by two equations
-as_generated : (lists after : Lists) (site : Site) (moment x : ℕ) (head : Header) (block : List ℕ) (result : Result Answered ServeFault) → head ≡ head_for x → block ≡ block_for x
-    → Answering lists after site moment head block result → Answering lists after site moment (head_for x) (block_for x) result
-as_generated lists after site moment x head block result made filled a =
-    subst (λ (b : List ℕ). Answering lists after site moment (head_for x) b result) filled (subst (λ (h : Header). Answering lists after site moment h block result) made a)
+as_generated : (lists after : Lists) (kept : List Asking → Type 0) (site : Site) (moment x : ℕ) (head : Header) (block : List ℕ) (result : Result Answered ServeFault)
+    → head ≡ head_for x → block ≡ block_for x
+    → Answering lists after kept site moment head block result → Answering lists after kept site moment (head_for x) (block_for x) result
+as_generated lists after kept site moment x head block result made filled a =
+    subst (λ (b : List ℕ). Answering lists after kept site moment (head_for x) b result) filled
+    (subst (λ (h : Header). Answering lists after kept site moment h block result) made a)
 
-pub generated_answered : (lists after : Lists) (site : Site) (moment x : ℕ) (head : Header) (block : List ℕ) (answered : Answered)
+pub generated_answered : (lists after : Lists) (kept : List Asking → Type 0) (site : Site) (moment x : ℕ) (head : Header) (block : List ℕ) (answered : Answered)
     → x < 2 ^ 31 → head ≡ head_for x → block ≡ block_for x → header_refusal site.options head ≡ None
-    → AnswersPacket (list_leads lists after) unbounded unbounded site moment head block (Ok answered)
+    → AnswersPacket (beside lists after kept) unbounded unbounded site moment head block (Ok answered)
     → AnswersNumber site.options lists.caches after.caches (packet_for moment x) (Ok answered)
-generated_answered lists after site moment x head block answered small made filled accepted a =
-    let same = as_generated lists after site moment x head block (Ok answered) made filled a in
+generated_answered lists after kept site moment x head block answered small made filled accepted a =
+    let same = as_generated lists after kept site moment x head block (Ok answered) made filled a in
     let taken = subst (λ (h : Header). header_refusal site.options h ≡ None) made accepted in
-    let reply = command_replied lists after moment 200 (asked_by site.options (head_for x) (block_for x)) answered.asks answered.reply same.1.0 same.1.1.1 in
+    let reply = command_replied lists after moment 200 (asked_by site.options (head_for x) (block_for x)) answered.asks answered.reply
+    (generated_of_cache site.options x) same.1.0 same.1.1.1.0 in
     (generated_is_whole site.options moment x small taken, reply.text, reply.answer, reply.caches)
 
 -- a generated block is never out of its grammar
-pub generated_unbroken : (lists after : Lists) (site : Site) (moment x : ℕ) (head : Header) (block : List ℕ) (at : ℕ)
+pub generated_unbroken : (lists after : Lists) (kept : List Asking → Type 0) (site : Site) (moment x : ℕ) (head : Header) (block : List ℕ) (at : ℕ)
     → x < 2 ^ 31 → head ≡ head_for x → block ≡ block_for x
-    → AnswersPacket (list_leads lists after) unbounded unbounded site moment head block (Err (serves.BadBlock at)) → ⊥
-generated_unbroken lists after site moment x head block at small made filled a =
-    let same = as_generated lists after site moment x head block (Err (serves.BadBlock at)) made filled a in
+    → AnswersPacket (beside lists after kept) unbounded unbounded site moment head block (Err (serves.BadBlock at)) → ⊥
+generated_unbroken lists after kept site moment x head block at small made filled a =
+    let same = as_generated lists after kept site moment x head block (Err (serves.BadBlock at)) made filled a in
     none-some at (sym (generated_whole site.options x small) ∙ same.0)
 
 -- ---- packets, one after the other

@@ -117,7 +117,7 @@ pub run_ends : {S Clk : Type 0} (gave : Clk → Clk → List ℕ → Type 0)
     → SoFar leads start site held told left middle taken between (gave clock mid) served
     → (told_now ≡ told) × Stops (leads held after) site (record { before = middle; now = now; ended = ended; faults_before = f1; faults_now = f2 })
     (record { before = between; now = taken_now; faults_before = s1; faults_now = s2 }) (gave mid later) fault
-    → PipeRun leads start unbounded site (record { before = left; now = now; ended = ended; faults_before = f0; faults_now = f2 })
+    → PipeRun leads start after unbounded site (record { before = left; now = now; ended = ended; faults_before = f0; faults_now = f2 })
     (record { before = taken; now = taken_now; faults_before = s0; faults_now = s2 }) (gave clock later) told_now fault
 run_ends gave gave_more leads start held after site told told_now left middle now taken between taken_now clock mid later ended f0 f1 f2 s0 s1 s2 served fault lf ls few s stopped =
     let few' : length s.turns < most_packets = rw s.count few in
@@ -125,7 +125,6 @@ run_ends gave gave_more leads start held after site told told_now left middle no
     record {
       turns = s.turns;
       behind = held;
-      last = after;
       left = unbounded;
       rest = t.rest;
       part = t.part;
@@ -146,12 +145,11 @@ full : {S Clk : Type 0} (gave : Clk → Clk → List ℕ → Type 0)
     → (s : SoFar leads start site held told left middle taken taken_now (gave clock mid) served)
     → Takes middle now rest
     → EndsBy (leads held held) site (ending_behind left now taken taken_now ended f0 f2 s0 s1 (length s.turns) rest [] []) fault
-    → PipeRun leads start unbounded site (record { before = left; now = now; ended = ended; faults_before = f0; faults_now = f2 })
+    → PipeRun leads start held unbounded site (record { before = left; now = now; ended = ended; faults_before = f0; faults_now = f2 })
     (record { before = taken; now = taken_now; faults_before = s0; faults_now = s1 }) (gave clock mid) told fault
 full gave leads start held site told left middle now taken taken_now clock mid ended f0 f2 s0 s1 rest fault served all s read ending = record {
   turns = s.turns;
   behind = held;
-  last = held;
   left = unbounded;
   rest = rest;
   part = [];
@@ -172,7 +170,7 @@ pub run_is_full : {S Clk : Type 0} (gave : Clk → Clk → List ℕ → Type 0)
     → f0 ≤ f1 → served ≡ most_packets
     → SoFar leads start site held told left middle taken taken_now (gave clock mid) served
     → LooksFurther (record { before = middle; now = now; ended = ended; faults_before = f1; faults_now = f2 }) fault
-    → PipeRun leads start unbounded site (record { before = left; now = now; ended = ended; faults_before = f0; faults_now = f2 })
+    → PipeRun leads start held unbounded site (record { before = left; now = now; ended = ended; faults_before = f0; faults_now = f2 })
     (record { before = taken; now = taken_now; faults_before = s0; faults_now = s1 }) (gave clock mid) told fault
 run_is_full gave leads start held site told left middle now taken taken_now clock mid ended f0 f1 f2 s0 s1 None served lf all s t =
     full gave leads start held site told left middle now taken taken_now clock mid ended f0 f2 s0 s1 [] None served all s t.0
@@ -188,12 +186,11 @@ run_is_full gave leads start held site told left middle now taken taken_now cloc
 -- a run that found no memory before its first packet
 pub nothing_done : {S Clk : Type 0} (gave : Clk → Clk → List ℕ → Type 0) (gave_none : (clock : Clk) → gave clock clock [])
     (leads : S → S → List Asking → ℕ → Type 0) (start : S) (site : Site) (left taken : Option (List ℕ)) (clock : Clk) (ended : Bool) (f0 f1 s0 s1 : ℕ)
-    → PipeRun leads start unbounded site (record { before = left; now = left; ended = ended; faults_before = f0; faults_now = f1 })
+    → PipeRun leads start start unbounded site (record { before = left; now = left; ended = ended; faults_before = f0; faults_now = f1 })
     (record { before = taken; now = taken; faults_before = s0; faults_now = s1 }) (gave clock clock) [] (Some faults.Memory)
 nothing_done gave gave_none leads start site left taken clock ended f0 f1 s0 s1 = record {
   turns = [];
   behind = start;
-  last = start;
   left = unbounded;
   rest = [];
   part = [];

@@ -256,18 +256,18 @@ left_behind : (before now : Option (List ℕ)) (bytes taken : List ℕ) → Take
 left_behind before None bytes taken takes is = absurd (cc)
 left_behind before (Some left) bytes taken takes is = (left, refl, cc)
 
-pub same_end : {S R : Type 0} → (leads : S → S → List Asking → ℕ → Type 0) (others : R → R → List Asking → ℕ → Type 0) (start : S) (begin : R)
+pub same_end : {S R : Type 0} → (leads : S → S → List Asking → ℕ → Type 0) (others : R → R → List Asking → ℕ → Type 0) (start last : S) (begin finish : R)
     (allowed more : Option (List ℕ)) (site : Site) (src from : Inflow) (snk into : Outflow) (gave given : List ℕ → Type 0) (told said : List Brief)
     (fault other : Option RunFault) (bytes : List ℕ)
-    → (run : PipeRun leads start allowed site src snk gave told fault) (again : PipeRun others begin more site from into given said other)
+    → (run : PipeRun leads start last allowed site src snk gave told fault) (again : PipeRun others begin finish more site from into given said other)
     → src.before ≡ Some bytes → from.before ≡ Some bytes → IsOfBytes fault → IsOfBytes other
     → (map as_read run.turns ≡ map as_read again.turns) × (fault ≡ other)
-same_end leads others start begin allowed more site src from snk into gave given told said fault other bytes run again is same of too =
+same_end leads others start last begin finish allowed more site src from snk into gave given told said fault other bytes run again is same of too =
     let first = left_behind src.before src.now bytes (bytes_of run.turns ++ run.rest) run.read is in
     let second = left_behind from.before from.now bytes (bytes_of again.turns ++ again.rest) again.read same in
-    let one = ends_so (leads run.behind run.last) site
+    let one = ends_so (leads run.behind last) site
     (record { src = src; snk = snk; count = length run.turns; rest = run.rest; part = run.part; late = run.late }) fault first.0 first.1 of run.ending in
-    let two = ends_so (others again.behind again.last) site
+    let two = ends_so (others again.behind finish) site
     (record { src = from; snk = into; count = length again.turns; rest = again.rest; part = again.part; late = again.late }) other second.0 second.1 too again.ending in
     same_from site.options run.turns again.turns 0 (length run.turns) (length again.turns) bytes (run.rest ++ first.0) (again.rest ++ second.0) fault other
     (all_accepted leads site run.turns start run.behind allowed run.left run.passed)

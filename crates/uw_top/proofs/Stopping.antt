@@ -4,7 +4,7 @@ use Rattle.std.proofs.lemmas.List.{append-nil}
 use Rattle.uw_outside.specs.Faults.{Rose}
 use Rattle.uw_outside.specs.Streams.{Inflow, Outflow, Takes, Gives}
 use Rattle.uw_outside.proofs.Streams.{Takes-none, Gives-none}
-use Rattle.uw_model.specs.Asks.{Asking, Led, desk_asks}
+use Rattle.uw_model.specs.Asks.{Asking, Led, answered_at}
 use Rattle.uw_model.specs.declared.asks.Asked.{Asked}
 use Rattle.uw_ends.specs.declared.ends.Brief.{Brief}
 use Rattle.uw_ends.specs.declared.ends.RunFault.{RunFault}
@@ -81,7 +81,7 @@ not_served led site src snk moment gave (serves.WriteFault done) told s = record
     record {
       turn = record { packet = s.packet; asked = done; end = replied_by s.reply; writes = s.followed.1.0 };
       is = record { whole = s.taken.1; course = s.followed.0 };
-      asks = subst (λ (m : ℕ). led (desk_asks m done ++ []) s.followed.1.0) (sym s.taken.0) s.followed.1.1;
+      asks = subst (λ (m : ℕ). led (answered_at m done ++ []) s.followed.1.0) (sym s.taken.0) s.followed.1.1;
       moment = ap (λ (m : ℕ). m ∷ []) (sym s.taken.0);
       read = refl;
       written = (s.count, s.short, refl);
@@ -105,7 +105,7 @@ served led site src snk moment gave briefs briefs_now s told is briefed =
     record {
       turn = record { packet = packet; asked = s.asks; end = replied_by s.reply; writes = is.followed.1.0 };
       is = record { whole = is.taken.1; course = is.followed.0 };
-      asks = subst (λ (m : ℕ). led (desk_asks m s.asks ++ []) is.followed.1.0) (sym same) is.followed.1.1;
+      asks = subst (λ (m : ℕ). led (answered_at m s.asks ++ []) is.followed.1.0) (sym same) is.followed.1.1;
       allowed = is.followed.1.2;
       read = is.taken.2;
       written = is.written;

@@ -6,3 +6,5 @@ pub mod PipeSteps
 pub mod LoadSteps
 pub mod RunSteps
 pub mod Laws
+pub mod Spool
+pub mod SpoolSteps

@@ -1,5 +1,5 @@
 -- What the parts of a load do.
-use Rattle.std.specs.Prelude.{◌≡◌, ℕ, ◌+◌, ◌*◌, ◌<◌, ◌≤◌, ◌^◌, List, [], ◌∷◌, length, slice_get, take, Option, None, Some, option_map, Result, Ok, Err}
+use Rattle.std.specs.Prelude.{◌≡◌, ℕ, ◌+◌, ◌*◌, ◌<◌, ◌≤◌, ◌^◌, List, [], ◌∷◌, length, slice_get, take, Option, None, Some, option_map, option_and_then, Result, Ok, Err}
 use Rattle.std.specs.List.{AllByRecursion}
 use Rattle.uw_outside.specs.Faults.{Rose}
 use Rattle.uw_outside.specs.Streams.{Gives}
@@ -7,7 +7,9 @@ use Rattle.uw_model.specs.declared.calls.Answer.{Answer}
 use Rattle.uw_model.specs.declared.asks.Asked.{Asked}
 use Rattle.uw_model.specs.declared.asks.AskAnswer.{AskAnswer}
 use Rattle.uw_model.specs.declared.asks.AskAnswer.TheVariants as ask_answers
+use Rattle.uw_model.specs.Asks.{DeskParts}
 use Rattle.uw_model.specs.ListState.{ListState}
+use Rattle.uw_model.specs.Lists.{Lists}
 use Rattle.uw_model.specs.Caches.{empty_caches}
 use Rattle.uw_conf.specs.declared.conf.Options.{Options}
 use Rattle.uw_ends.specs.declared.ends.RunFault.{RunFault}
@@ -20,6 +22,10 @@ use Rattle.uw_top.specs.Pipe.{bad_packet_of}
 use Rattle.uw_top.specs.Replying.{reply_of}
 use Rattle.uw_top.specs.Load.{figures_from, next_number, no_figures, packets_from}
 
+-- how many caches and how many areas plain lists have
+abbrev pub parts_of_lists : Lists → DeskParts
+parts_of_lists lists = record { caches = length lists.caches; areas = length lists.areas }
+
 -- the caches after packets of commands
 abbrev pub caches_from : Options → List ListState → List Exchange → List ListState
 caches_from conf caches [] = caches
@@ -27,10 +33,11 @@ caches_from conf caches (x ∷ xs) = caches_from conf (reply_of conf caches x).c
 
 -- the answer of a command's one ask; a refused command asks nothing
 abbrev pub answer_behind : List Asked → Option Answer
-answer_behind asked = option_map (λ (a : Asked). of_cache a.answer) (slice_get asked 0)
+answer_behind asked = option_and_then (λ (a : Asked). of_cache a.answer) (slice_get asked 0)
   where
-    of_cache : AskAnswer → Answer
-    of_cache (ask_answers.Cache answer) = answer
+    of_cache : AskAnswer → Option Answer
+    of_cache (ask_answers.Cache answer) = Some answer
+    of_cache _ = None
 
 -- a packet was answered, or its header is refused, or there was no memory
 abbrev pub AnswersNumber : Options → List ListState → List ListState → Exchange → Result Answered RunFault → Type 0

@@ -7,9 +7,11 @@ use Rattle.uw_outside.specs.Streams.{Inflow, Outflow, Takes, Gives}
 use Rattle.uw_packet.specs.Reads.{IsOver}
 use Rattle.uw_model.specs.declared.asks.AskAnswer.{AskAnswer}
 use Rattle.uw_model.specs.declared.asks.Asked.{Asked}
-use Rattle.uw_model.specs.Asks.{AskEnd, Asking, answered, died_absent, died_whole, no_memory, desk_asks}
-use Rattle.uw_model.specs.Caches.{Lists, LeadsLists, empty_caches}
+use Rattle.uw_model.specs.Asks.{AskEnd, Asking, answered, died_absent, died_whole, no_memory, answered_at}
+use Rattle.uw_keeper.specs.Keeping.{Keeping}
+use Rattle.uw_model.specs.Lists.{Lists, LeadsLists, empty_lists}
 use Rattle.uw_chain.specs.Courses.{Course, Unfolds, asking, ended}
+use Rattle.uw_chain.specs.Spooling.{Keeps, both_led}
 use Rattle.uw_ends.specs.declared.ends.Brief.{Brief}
 use Rattle.uw_ends.specs.declared.ends.RunFault.{RunFault}
 use Rattle.uw_ends.specs.declared.ends.RunFault.TheVariants as faults
@@ -48,7 +50,7 @@ is_whole_death no_memory = None
 
 -- the asks of a turn, with the one in which its worker died
 abbrev pub asks_of_turn : Turn → List Asking
-asks_of_turn t = desk_asks t.packet.moment t.asked ++ last_of t.end
+asks_of_turn t = answered_at t.packet.moment t.asked ++ last_of t.end
   where
     last_of : TurnEnd → List Asking
     last_of (replied_by reply) = []
@@ -85,7 +87,7 @@ abbrev pub LeavesAllowed : TurnEnd → Option (List ℕ) → ℕ → Option (Lis
 LeavesAllowed (replied_by reply) before writes after = Spends before after writes
 LeavesAllowed (died_in ask) before writes after = before ≡ option_map (λ rest. writes ∷ rest) after
 
--- turns led from a state of the desk to another, where `leads` says which asks lead from which state to which, and left so much of a worker's allowances
+-- turns led from a state to another, where `leads` says which asks lead from which state to which, and left so much of a worker's allowances
 abbrev pub TurnsLead : {S : Type 0} → (S → S → List Asking → ℕ → Type 0) → Site → S → Option (List ℕ) → List Turn → S → Option (List ℕ) → Type 0
 TurnsLead leads site state allowed [] after left = (after ≡ state) × (left ≡ allowed)
 TurnsLead {S} leads site state allowed (t ∷ turns) after left =
@@ -100,9 +102,13 @@ unbounded = Some []
 abbrev pub list_leads : Lists → Lists → List Asking → ℕ → Type 0
 list_leads before now asked writes = LeadsLists before asked now
 
--- the empty lists of a site's caches
-abbrev pub empty_lists : Options → Lists
-empty_lists options = record { caches = empty_caches options.caches }
+-- the plain lists of a site before its first packet: empty caches, and areas of zero bytes
+abbrev pub first_lists : Options → Lists
+first_lists options = empty_lists options.caches options.areas
+
+-- which asks lead a desk and a keeper together, from a state of both to another: those of a desk the one, and those of the spool the other
+abbrev pub both_lead : {S : Type 0} → (S → S → List Asking → ℕ → Type 0) → S × Keeping → S × Keeping → List Asking → ℕ → Type 0
+both_lead leads before now asked writes = both_led (leads before.0 now.0) (Keeps before.1 now.1) asked writes
 
 -- the bytes of turns as they came
 abbrev pub bytes_of : List Turn → List ℕ
@@ -174,14 +180,13 @@ EndsBy led site e (Some faults.Memory) = TakesOnePacket site.options e.rest × (
 EndsBy led site e (Some faults.TooMany) = (length e.rest ≡ 1) × IsAtMost e
 EndsBy led site e (Some _) = ⊥
 
--- what a run took from its source, wrote into its sink and was told by its clock, and how it ended, where `leads` says which asks lead the desk from which state to
--- which, and the desk begins in a state
-pub record PipeRun {S : Type 0} (leads : S → S → List Asking → ℕ → Type 0) (start : S) (allowed : Option (List ℕ)) (site : Site) (src : Inflow) (snk : Outflow)
+-- what a run took from its source, wrote into its sink and was told by its clock, and how it ended, where `leads` says which asks lead from which state of the desk
+-- and the keeper to which, and a run goes from one state to another
+pub record PipeRun {S : Type 0} (leads : S → S → List Asking → ℕ → Type 0) (start last : S) (allowed : Option (List ℕ)) (site : Site) (src : Inflow) (snk : Outflow)
     (gave : List ℕ → Type 0) (told : List Brief) (fault : Option RunFault) : Type 0 where
-  -- the packets that were served, and the states of the desk behind them and at the end
+  -- the packets that were served, and the state behind them
   pub turns : List Turn
   pub behind : S
-  pub last : S
   pub left : Option (List ℕ)
   pub rest : List ℕ
   pub part : List ℕ

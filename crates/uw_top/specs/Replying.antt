@@ -1,5 +1,5 @@
 -- The reply to a command over plain lists (own rule).
-use Rattle.std.specs.Prelude.{ℕ, List, Option, None, Some, Result, Ok, Err}
+use Rattle.std.specs.Prelude.{ℕ, List, [], Option, None, Some, Result, Ok, Err}
 use Rattle.uw_model.specs.declared.calls.Answer.{Answer}
 use Rattle.uw_model.specs.declared.asks.Ask.{Ask}
 use Rattle.uw_model.specs.declared.asks.Ask.TheVariants as asks
@@ -16,13 +16,15 @@ pub record Reply : Type 0 where
   pub answer : Option Answer
   pub caches : List ListState
 
--- the reply to an ask, or to a refused command
+-- the reply to a command's ask, which is one of a cache, or to a refused command
 abbrev pub replied : List ListState → ℕ → ℕ → Result Ask CmdFault → Reply
 replied caches now m2 (Ok (asks.Cache cache call)) = record {
   text = reply_text m2 (answer_in caches cache now call);
   answer = Some (answer_in caches cache now call);
   caches = caches_after caches cache now call;
 }
+replied caches now m2 (Ok (asks.Area area op)) = record { text = []; answer = None; caches = caches }
+replied caches now m2 (Ok (asks.Spool vars body)) = record { text = []; answer = None; caches = caches }
 replied caches now m2 (Err fault) = record { text = refusal_reply m2 fault; answer = None; caches = caches }
 
 -- the reply to a command's packet

@@ -11,7 +11,10 @@ use Rattle.uw_conf.specs.declared.conf.ConfError.TheVariants as errors
 use Rattle.uw_conf.specs.Configuration.{most_text_bytes}
 use Rattle.uw_conf.specs.Reading.{refused_at}
 use Rattle.std.specs.Str.Lines.{lines}
+use Rattle.uw_rules.specs.declared.grammar.Table.{Table}
+use Rattle.uw_rules.specs.declared.grammar.Table.TheVariants as tables
 use Rattle.uw_rules.specs.Rules.{place_of_label, table_of}
+use Rattle.uw_chain.specs.Routing.{Naming}
 use Rattle.uw_conf.specs.declared.conf.Options.{Options}
 use Rattle.uw_conf.specs.Routes.{cache_names_of, rule_lines_of}
 use Rattle.uw_conf.specs.Given.{ReadsConf, options_in}
@@ -21,12 +24,12 @@ use Rattle.uw_ends.specs.declared.words.Command.TheVariants as commands
 use Rattle.uw_ends.specs.declared.ends.RunFault.{RunFault}
 use Rattle.uw_ends.specs.declared.ends.RunFault.TheVariants as faults
 
--- a command that is built: `pipe` without deaths, or `load`
+-- a command that is built: `pipe` without deaths, `spool`, or `load`
 abbrev pub is_built : Option Command → Bool
 is_built None = false
 is_built (Some (commands.Pipe [])) = true
 is_built (Some (commands.Pipe (death ∷ deaths))) = false
-is_built (Some commands.Spool) = false
+is_built (Some commands.Spool) = true
 is_built (Some commands.Steps) = false
 is_built (Some (commands.Load first count)) = true
 is_built (Some commands.Serve) = false
@@ -55,12 +58,18 @@ IsNotBegun said r (Some faults.ReadFault) = Rose r.faults_before r.faults_now ×
 IsNotBegun said r (Some faults.Memory) = (text : List ℕ) × Takes r.before r.now text × (length text ≤ most_text_bytes + 1)
 IsNotBegun said r _ = ⊥
 
--- the site of a text that says these options: its rules as they are written, with the names of its caches and the places of its labels
+-- how the rules of a table of lines are meant: with the names of the caches, and the places of the table's labels
+abbrev pub naming_in : Table → List (List ℕ) → Naming
+naming_in table lines = record { names = cache_names_of lines; labels = place_of_label (rule_lines_of table lines) }
+
+-- the site of a text that says these options: its rules of requests and of tasks as they are written
 abbrev pub site_of : List ℕ → Options → Site
 site_of text options = record {
   options = options;
-  naming = record { names = cache_names_of (lines text); labels = place_of_label (rule_lines_of (lines text)) };
-  rules = table_of (rule_lines_of (lines text));
+  naming = naming_in tables.Requests (lines text);
+  rules = table_of (rule_lines_of tables.Requests (lines text));
+  task_naming = naming_in tables.Tasks (lines text);
+  task_rules = table_of (rule_lines_of tables.Tasks (lines text));
 }
 
 -- a command over the configuration that a text says, of whose run this holds; or it did not begin, and left all else as it was

@@ -1,10 +1,10 @@
 // The configuration of a run, read from a source of its own.
 ghost use Rattle.std.specs.Prelude.{◌≡◌, ◌<◌, ◌^◌, ℕ, List, length, IfOk, Ok};
 ghost use Rattle.uw_outside.specs.Streams.{inflow};
-ghost use Rattle.uw_rules.specs.CacheNumbers.{AskCachesBelow};
+ghost use Rattle.uw_rules.specs.PartNumbers.{AskPartsBelow};
 ghost use Rattle.uw_rules.specs.Compiled.{rules_of};
-ghost use Rattle.uw_conf.specs.Given.{ReadsConf};
-ghost use Rattle.uw_conf.specs.Sound.{AreCaches};
+ghost use Rattle.uw_conf.specs.Given.{ReadsConf, parts_in};
+ghost use Rattle.uw_conf.specs.Sound.{ArePartsOfSite};
 ghost use Rattle.uw_top.specs.Run.{IsSaid, IsSaidWithACache};
 ghost use Rattle.uw_top.specs.RunSteps.{GivesConf, Says};
 
@@ -24,8 +24,9 @@ pub fn configuration<F: Source, M: Patterns>(
     make: &mut M,
 ) -> Result<Conf, RunFault>
     ensures gives { GivesConf (IsSaid (M.faults make.old) (M.faults make.new)) (inflow F.left F.ended F.faults conf.old conf.new) result }
-    ensures caches { IfOk result (λ c. AreCaches c.caches) }
-    ensures routes { IfOk result (λ c. AskCachesBelow (length c.caches) (rules_of c.routes)) }
+    ensures caches { IfOk result (λ c. ArePartsOfSite c.caches c.areas) }
+    ensures routes { IfOk result (λ c. AskPartsBelow (parts_in c) (rules_of c.routes)) }
+    ensures tasks { IfOk result (λ c. AskPartsBelow (parts_in c) (rules_of c.tasks)) }
 {
     match vec![in alloc; 0; MOST_READ] {
         Ok(mut text) => read_into(alloc, conf, text.as_mut_slice(), make),
@@ -42,8 +43,9 @@ fn read_into<F: Source, M: Patterns>(
 ) -> Result<Conf, RunFault>
     requires { length text.old ≡ 1048577 }
     ensures gives { GivesConf (IsSaid (M.faults make.old) (M.faults make.new)) (inflow F.left F.ended F.faults conf.old conf.new) result }
-    ensures caches { IfOk result (λ c. AreCaches c.caches) }
-    ensures routes { IfOk result (λ c. AskCachesBelow (length c.caches) (rules_of c.routes)) }
+    ensures caches { IfOk result (λ c. ArePartsOfSite c.caches c.areas) }
+    ensures routes { IfOk result (λ c. AskPartsBelow (parts_in c) (rules_of c.routes)) }
+    ensures tasks { IfOk result (λ c. AskPartsBelow (parts_in c) (rules_of c.tasks)) }
 {
     match fill(conf, text) {
         Filled::Whole => said(alloc, text, make),
@@ -56,8 +58,9 @@ fn read_into<F: Source, M: Patterns>(
 fn said<M: Patterns>(alloc: Global, text: &[u8], make: &mut M) -> Result<Conf, RunFault>
     requires { length text.now < 2 ^ 32 }
     ensures says { Says (IsSaid (M.faults make.old) (M.faults make.new) text.now) result }
-    ensures caches { IfOk result (λ c. AreCaches c.caches) }
-    ensures routes { IfOk result (λ c. AskCachesBelow (length c.caches) (rules_of c.routes)) }
+    ensures caches { IfOk result (λ c. ArePartsOfSite c.caches c.areas) }
+    ensures routes { IfOk result (λ c. AskPartsBelow (parts_in c) (rules_of c.routes)) }
+    ensures tasks { IfOk result (λ c. AskPartsBelow (parts_in c) (rules_of c.tasks)) }
 {
     match read_conf(alloc, text, make) {
         Ok(conf) => Ok(conf),
@@ -73,8 +76,9 @@ pub fn configuration_with_a_cache<F: Source, M: Patterns>(
     make: &mut M,
 ) -> Result<Conf, RunFault>
     ensures gives { GivesConf (IsSaidWithACache (M.faults make.old) (M.faults make.new)) (inflow F.left F.ended F.faults conf.old conf.new) result }
-    ensures caches { IfOk result (λ c. AreCaches c.caches) }
-    ensures routes { IfOk result (λ c. AskCachesBelow (length c.caches) (rules_of c.routes)) }
+    ensures caches { IfOk result (λ c. ArePartsOfSite c.caches c.areas) }
+    ensures routes { IfOk result (λ c. AskPartsBelow (parts_in c) (rules_of c.routes)) }
+    ensures tasks { IfOk result (λ c. AskPartsBelow (parts_in c) (rules_of c.tasks)) }
 {
     match configuration(alloc, conf, make) {
         Ok(conf) => having_a_cache(conf),
@@ -84,11 +88,13 @@ pub fn configuration_with_a_cache<F: Source, M: Patterns>(
 
 // Refuses a configuration without a cache.
 fn having_a_cache(conf: Conf) -> Result<Conf, RunFault>
-    requires caches { AreCaches conf.caches }
-    requires routes { AskCachesBelow (length conf.caches) (rules_of conf.routes) }
+    requires caches { ArePartsOfSite conf.caches conf.areas }
+    requires routes { AskPartsBelow (parts_in conf) (rules_of conf.routes) }
+    requires tasks { AskPartsBelow (parts_in conf) (rules_of conf.tasks) }
     ensures gives { (before after : ℕ) (text : List ℕ) → IsSaid before after text (Ok conf) → Says (IsSaidWithACache before after text) result }
-    ensures caches { IfOk result (λ c. AreCaches c.caches) }
-    ensures routes { IfOk result (λ c. AskCachesBelow (length c.caches) (rules_of c.routes)) }
+    ensures caches { IfOk result (λ c. ArePartsOfSite c.caches c.areas) }
+    ensures routes { IfOk result (λ c. AskPartsBelow (parts_in c) (rules_of c.routes)) }
+    ensures tasks { IfOk result (λ c. AskPartsBelow (parts_in c) (rules_of c.tasks)) }
 {
     if conf.caches.len() == 0 {
         return Err(RunFault::Conf(ConfFault {

@@ -6,6 +6,7 @@ pub mod laws;
 mod load;
 mod pipe;
 mod runs;
+mod spool;
 
 pub use runs::run;
 pub use uw_ends::{BadPacket, Brief, BriefList, RunEnd, RunFault, fault_text};

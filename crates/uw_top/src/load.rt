@@ -3,13 +3,14 @@ ghost use Rattle.std.specs.Prelude.{◌≡◌, ◌<◌, ◌≤◌, ◌^◌, ◌+
 ghost use Rattle.std.specs.Fmt.{decimal};
 ghost use Rattle.uw_outside.specs.Streams.{outflow};
 ghost use Rattle.uw_model.specs.Caches.{empty_caches};
-ghost use Rattle.uw_rules.specs.CacheNumbers.{AskCachesBelow};
+ghost use Rattle.uw_rules.specs.PartNumbers.{AskPartsBelow};
 ghost use Rattle.uw_rules.specs.Compiled.{rules_of};
 ghost use Rattle.uw_chain.specs.KeptSearches.{FitTable};
-ghost use Rattle.uw_conf.specs.Sound.{AreCaches};
-ghost use Rattle.uw_session.specs.Exchange.{IsSiteOf, Site};
+ghost use Rattle.uw_conf.specs.Given.{parts_in};
+ghost use Rattle.uw_conf.specs.Sound.{ArePartsOfSite};
+ghost use Rattle.uw_session.specs.Exchange.{HasParts, IsSiteOf, Site};
 ghost use Rattle.uw_top.specs.Load.{LoadRun, block_for, command_for, figure_line, figures_text, head_for, next_number, no_figures, packet_for, variables_for, with_reply};
-ghost use Rattle.uw_top.specs.LoadSteps.{AnswersNumber, AreCounted, CanCount, WritesText, answer_behind};
+ghost use Rattle.uw_top.specs.LoadSteps.{AnswersNumber, AreCounted, CanCount, WritesText, answer_behind, parts_of_lists};
 
 use itoa::Buffer;
 use std::alloc::Global;
@@ -17,6 +18,7 @@ use uw_base::{Bytes, Memory, Pair, Vars, put_decimal};
 use uw_chain::Searches;
 use uw_conf::Conf;
 use uw_ends::{BadPacket, RunFault};
+use uw_keeper::MemKeeper;
 use uw_model::{Answer, AskAnswer, ListDesk};
 use uw_outside::{Clock, Immortal, Sink, put_all};
 use uw_packet::{Header, Packet, write_vars};
@@ -119,12 +121,12 @@ fn answer_number<'c>(
 ) -> Result<Answered, RunFault>
     requires number { x < 2 ^ 31 }
     requires few { length conf.now.caches < 2 ^ 32 }
-    requires enough { length conf.now.caches ≤ length desk.old.caches }
+    requires enough { HasParts (parts_of_lists desk.old) conf.now }
     requires fits { FitTable conf.now.routes searches.old }
-    requires known { AskCachesBelow (length desk.old.caches) (rules_of conf.now.routes) }
+    requires known { AskPartsBelow (parts_of_lists desk.old) (rules_of conf.now.routes) }
     ensures answer { (site : Site) → IsSiteOf conf.now site → AnswersNumber site.options desk.old.caches desk.new.caches (packet_for moment x) result }
     ensures fits { FitTable conf.now.routes searches.new }
-    ensures caches { length desk.new.caches ≡ length desk.old.caches }
+    ensures parts { parts_of_lists desk.new ≡ parts_of_lists desk.old }
 {
     let packet = packet_for(alloc, x)?;
     let size = u32::from(packet.head.size);
@@ -133,7 +135,9 @@ fn answer_number<'c>(
         return Err(RunFault::BadPacket(BadPacket::TooBig { size, limit }));
     }
     let life = &mut Immortal::new();
-    match answer_packet(alloc, searches, conf, moment, &packet, life, desk) {
+    // A command puts no task aside.
+    let keep = &mut MemKeeper::new(Vec::new(alloc), Vec::new(alloc));
+    match answer_packet(alloc, searches, conf, moment, &packet, life, desk, keep) {
         Ok(answered) => Ok(answered),
         Err(ServeFault::BadBlock { at }) => Err(RunFault::BadPacket(BadPacket::BadBlock { at })),
         // An immortal worker does not die, so what is left is want of memory.
@@ -146,8 +150,10 @@ fn answer_of(answered: &Answered) -> Option<&Answer>
     ensures { option_copied result ≡ answer_behind answered.now.asks }
 {
     let asked = answered.asks.as_slice().first()?;
-    let AskAnswer::Cache(answer) = &asked.answer;
-    Some(answer)
+    match &asked.answer {
+        AskAnswer::Cache(answer) => Some(answer),
+        _ => None,
+    }
 }
 
 impl Figures {
@@ -217,14 +223,14 @@ pub fn load<K: Sink, C: Clock>(
     snk: &mut K,
     clock: &mut C,
 ) -> Option<RunFault>
-    requires caches { AreCaches conf.caches }
-    requires known { AskCachesBelow (length conf.caches) (rules_of conf.routes) }
+    requires parts { ArePartsOfSite conf.caches conf.areas }
+    requires known { AskPartsBelow (parts_in conf) (rules_of conf.routes) }
     requires first { first < 2 ^ 31 }
     ensures { (site : Site) → IsSiteOf conf site → LoadRun site.options first count
         (outflow K.taken K.faults snk.old snk.new)
         (C.gave clock.old clock.new) result }
 {
-    let mut desk = match ListDesk::new(alloc, &conf.caches) {
+    let mut desk = match ListDesk::new(alloc, &conf.caches, &conf.areas) {
         Ok(desk) => desk,
         Err(_) => return Some(RunFault::Memory),
     };
@@ -256,9 +262,10 @@ fn load_with<'c, K: Sink, C: Clock>(
     clock: &mut C,
 ) -> Option<RunFault>
     requires few { length conf.now.caches < 2 ^ 32 }
-    requires empty { desk.old.caches ≡ empty_caches conf.now.caches }
+    requires caches { desk.old.caches ≡ empty_caches conf.now.caches }
+    requires parts { parts_of_lists desk.old ≡ parts_in conf.now }
     requires fits { FitTable conf.now.routes searches.old }
-    requires known { AskCachesBelow (length desk.old.caches) (rules_of conf.now.routes) }
+    requires known { AskPartsBelow (parts_in conf.now) (rules_of conf.now.routes) }
     requires first { first < 2 ^ 31 }
     ensures { (site : Site) → IsSiteOf conf.now site → LoadRun site.options first count
         (outflow K.taken K.faults snk.old snk.new)

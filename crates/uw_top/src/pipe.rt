@@ -1,17 +1,19 @@
 // The machine of `pipe`.
 ghost use Rattle.std.specs.Prelude.{◌≡◌, ◌<◌, ◌≤◌, ◌^◌, [], length};
 ghost use Rattle.uw_outside.specs.Streams.{inflow, outflow};
-ghost use Rattle.uw_rules.specs.CacheNumbers.{AskCachesBelow};
+ghost use Rattle.uw_keeper.specs.Keeping.{keeping};
+ghost use Rattle.uw_rules.specs.PartNumbers.{AskPartsBelow};
 ghost use Rattle.uw_rules.specs.Compiled.{rules_of};
 ghost use Rattle.uw_chain.specs.KeptSearches.{FitTable};
-ghost use Rattle.uw_session.specs.Exchange.{IsSiteOf, Site};
-ghost use Rattle.uw_top.specs.Pipe.{PipeRun, unbounded};
+ghost use Rattle.uw_session.specs.Exchange.{HasParts, IsSiteOf, Site};
+ghost use Rattle.uw_top.specs.Pipe.{PipeRun, both_lead, unbounded};
 ghost use Rattle.uw_top.specs.PipeSteps.{LooksFurther, Turns, fault_of_serving};
 
 use std::alloc::Global;
 use uw_chain::Searches;
 use uw_conf::Conf;
 use uw_ends::{BadPacket, Brief, RunFault};
+use uw_keeper::Keeper;
 use uw_model::Desk;
 use uw_outside::{Clock, Filled, Immortal, Sink, Source, fill};
 use uw_session::{Form, ServeFault, serve_with};
@@ -42,26 +44,27 @@ fn run_fault(fault: ServeFault) -> Option<RunFault>
 }
 
 // Serves the next packet: true where it was answered, false where the source is at its end.
-fn turn<'c, S: Source, K: Sink, C: Clock, D: Desk>(
+fn turn<'c, S: Source, K: Sink, C: Clock, D: Desk, P: Keeper>(
     alloc: Global,
     searches: &mut Searches<'c>,
     conf: &'c Conf,
     desk: &mut D,
+    keep: &mut P,
     briefs: &mut Vec<Brief>,
     src: &mut S,
     snk: &mut K,
     clock: &mut C,
 ) -> Result<bool, RunFault>
     requires few { length conf.now.caches < 2 ^ 32 }
-    requires enough { length conf.now.caches ≤ D.caches desk.old }
-    requires known { AskCachesBelow (D.caches desk.old) (rules_of conf.now.routes) }
+    requires enough { HasParts (D.parts desk.old) conf.now }
+    requires known { AskPartsBelow (D.parts desk.old) (rules_of conf.now.routes) }
     requires fits { FitTable conf.now.routes searches.old }
-    ensures turn { (site : Site) → IsSiteOf conf.now site → Turns (D.leads desk.old desk.new) site briefs.old.items briefs.new.items
+    ensures turn { (site : Site) → IsSiteOf conf.now site → Turns (both_lead D.leads (desk.old, keeping P.rows P.append_faults P.other_faults keep.old) (desk.new, keeping P.rows P.append_faults P.other_faults keep.new)) site briefs.old.items briefs.new.items
         (inflow S.left S.ended S.faults src.old src.new)
         (outflow K.taken K.faults snk.old snk.new)
         (C.gave clock.old clock.new) result }
     ensures fits { FitTable conf.now.routes searches.new }
-    ensures caches { D.caches desk.new ≡ D.caches desk.old }
+    ensures parts { D.parts desk.new ≡ D.parts desk.old }
     ensures src { S.faults src.old ≤ S.faults src.new }
     ensures snk { K.faults snk.old ≤ K.faults snk.new }
 {
@@ -80,6 +83,7 @@ fn turn<'c, S: Source, K: Sink, C: Clock, D: Desk>(
         snk,
         life,
         desk,
+        keep,
     ) {
         Ok(_) => {
             briefs.push_reserved(Brief { moment, died: None });
@@ -104,28 +108,29 @@ fn look_further<S: Source>(src: &mut S) -> Option<RunFault>
 }
 
 /// Serves packet after packet, up to the end of the source or the first fault.
-pub fn serve<'c, S: Source, K: Sink, C: Clock, D: Desk>(
+pub fn serve<'c, S: Source, K: Sink, C: Clock, D: Desk, P: Keeper>(
     alloc: Global,
     searches: &mut Searches<'c>,
     conf: &'c Conf,
     desk: &mut D,
+    keep: &mut P,
     briefs: &mut Vec<Brief>,
     src: &mut S,
     snk: &mut K,
     clock: &mut C,
 ) -> Option<RunFault>
     requires few { length conf.now.caches < 2 ^ 32 }
-    requires enough { length conf.now.caches ≤ D.caches desk.old }
-    requires known { AskCachesBelow (D.caches desk.old) (rules_of conf.now.routes) }
+    requires enough { HasParts (D.parts desk.old) conf.now }
+    requires known { AskPartsBelow (D.parts desk.old) (rules_of conf.now.routes) }
     requires fits { FitTable conf.now.routes searches.old }
     requires first { briefs.old.items ≡ [] }
-    ensures { (site : Site) → IsSiteOf conf.now site → PipeRun D.leads desk.old unbounded site
+    ensures { (site : Site) → IsSiteOf conf.now site → PipeRun (both_lead D.leads) (desk.old, keeping P.rows P.append_faults P.other_faults keep.old) (desk.new, keeping P.rows P.append_faults P.other_faults keep.new) unbounded site
         (inflow S.left S.ended S.faults src.old src.new)
         (outflow K.taken K.faults snk.old snk.new)
         (C.gave clock.old clock.new) briefs.new.items result }
 {
     for served in 0..MOST_PACKETS {
-        match turn(alloc, searches, conf, desk, briefs, src, snk, clock) {
+        match turn(alloc, searches, conf, desk, keep, briefs, src, snk, clock) {
             Ok(true) => {}
             Ok(false) => return None,
             Err(fault) => return Some(fault),

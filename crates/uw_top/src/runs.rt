@@ -2,33 +2,40 @@
 ghost use Rattle.std.specs.Prelude.{◌≡◌, ◌<◌, ◌^◌, ◌⊎◌, [], ℕ, length, false, map, Some};
 ghost use Rattle.std.specs.String.{string_bytes};
 ghost use Rattle.uw_outside.specs.Streams.{inflow, outflow};
-ghost use Rattle.uw_rules.specs.CacheNumbers.{AskCachesBelow};
+ghost use Rattle.uw_keeper.specs.Keeping.{keeping};
+ghost use Rattle.uw_model.specs.Lists.{Lists};
+ghost use Rattle.uw_rules.specs.PartNumbers.{AskPartsBelow};
 ghost use Rattle.uw_rules.specs.Compiled.{rules_of};
-ghost use Rattle.uw_conf.specs.Sound.{AreCaches};
+ghost use Rattle.uw_conf.specs.Given.{parts_in};
+ghost use Rattle.uw_conf.specs.Sound.{ArePartsOfSite};
 ghost use Rattle.uw_ends.specs.declared.ends.RunFault.TheVariants as faults;
 ghost use Rattle.uw_ends.specs.declared.words.Command.TheVariants as commands;
 ghost use Rattle.uw_ends.specs.Ends.{status_of};
 ghost use Rattle.uw_ends.specs.Words.{command_of};
 ghost use Rattle.uw_top.specs.Load.{LoadRun};
 ghost use Rattle.uw_session.specs.Exchange.{IsSiteOf, Site};
-ghost use Rattle.uw_top.specs.Pipe.{PipeRun, empty_lists, list_leads, unbounded};
+ghost use Rattle.uw_top.specs.Pipe.{PipeRun, both_lead, first_lists, list_leads, unbounded};
+ghost use Rattle.uw_top.specs.Spool.{SpoolRun};
 ghost use Rattle.uw_top.specs.Run.{Runs, IsSaid, IsSaidWithACache, is_built};
 
 use crate::configuration::{configuration, configuration_with_a_cache};
 use crate::load::load;
 use crate::pipe::serve;
+use crate::spool::spooled;
 use std::alloc::Global;
 use uw_chain::Searches;
 use uw_conf::Conf;
 use uw_ends::{BriefList, Command, RunEnd, RunFault, WordsFault, read_words};
+use uw_keeper::Keeper;
 use uw_model::ListDesk;
 use uw_outside::{Clock, Sink, Source};
 use uw_rules::Patterns;
 
 /// Does all that the program does. It reads the words of a command and a configuration, whose patterns `make` compiles. `pipe` then reads packets from
-/// the source, answers each by one frame into the sink, at the moments of the clock, and says how it ended; `load`
-/// answers packets that it makes, and writes figures.
-pub fn run<F: Source, M: Patterns, S: Source, K: Sink, C: Clock>(
+/// the source, answers each by one frame into the sink, at the moments of the clock, and says how it ended; `spool`
+/// runs the rounds of all spoolers over the rows of the keeper, at one moment of the clock, and writes what they report;
+/// `load` answers packets that it makes, and writes figures.
+pub fn run<F: Source, M: Patterns, S: Source, K: Sink, C: Clock, P: Keeper>(
     alloc: Global,
     words: &[String],
     conf: &mut F,
@@ -36,36 +43,44 @@ pub fn run<F: Source, M: Patterns, S: Source, K: Sink, C: Clock>(
     src: &mut S,
     snk: &mut K,
     clock: &mut C,
+    keep: &mut P,
 ) -> RunEnd
     ensures status { result.status ≡ status_of result.fault }
 
     // Other words are refused, before anything is read.
     ensures usage { is_built (command_of (map string_bytes words.now)) ≡ false → (result.fault ≡ Some faults.Usage) ⊎ (result.fault ≡ Some faults.Memory) }
     ensures untouched { is_built (command_of (map string_bytes words.now)) ≡ false
-        → (conf.new ≡ conf.old) × (make.new ≡ make.old) × (src.new ≡ src.old) × (snk.new ≡ snk.old) × (clock.new ≡ clock.old) × (result.briefs ≡ []) }
+        → (conf.new ≡ conf.old) × (make.new ≡ make.old) × (src.new ≡ src.old) × (snk.new ≡ snk.old) × (clock.new ≡ clock.old) × (keep.new ≡ keep.old) × (result.briefs ≡ []) }
 
     // What was read, what was written for it, and why it ended there.
     ensures pipes { command_of (map string_bytes words.now) ≡ Some (commands.Pipe []) → Runs (IsSaid (M.faults make.old) (M.faults make.new))
         (inflow F.left F.ended F.faults conf.old conf.new)
-        ((src.new ≡ src.old) × (snk.new ≡ snk.old) × (clock.new ≡ clock.old) × (result.briefs ≡ [])) result.fault
-        (λ site. PipeRun list_leads (empty_lists site.options) unbounded site
+        ((src.new ≡ src.old) × (snk.new ≡ snk.old) × (clock.new ≡ clock.old) × (keep.new ≡ keep.old) × (result.briefs ≡ [])) result.fault
+        (λ site. (lists : Lists) × PipeRun (both_lead list_leads) (first_lists site.options, keeping P.rows P.append_faults P.other_faults keep.old) (lists, keeping P.rows P.append_faults P.other_faults keep.new) unbounded site
         (inflow S.left S.ended S.faults src.old src.new)
         (outflow K.taken K.faults snk.old snk.new)
         (C.gave clock.old clock.new) result.briefs result.fault) }
     ensures loads { (first count : ℕ) → command_of (map string_bytes words.now) ≡ Some (commands.Load first count) → Runs (IsSaidWithACache (M.faults make.old) (M.faults make.new))
         (inflow F.left F.ended F.faults conf.old conf.new)
-        ((src.new ≡ src.old) × (snk.new ≡ snk.old) × (clock.new ≡ clock.old) × (result.briefs ≡ [])) result.fault
-        (λ site. (src.new ≡ src.old) × (result.briefs ≡ []) × LoadRun site.options first count
+        ((src.new ≡ src.old) × (snk.new ≡ snk.old) × (clock.new ≡ clock.old) × (keep.new ≡ keep.old) × (result.briefs ≡ [])) result.fault
+        (λ site. (src.new ≡ src.old) × (keep.new ≡ keep.old) × (result.briefs ≡ []) × LoadRun site.options first count
         (outflow K.taken K.faults snk.old snk.new)
         (C.gave clock.old clock.new) result.fault) }
+    ensures spools { command_of (map string_bytes words.now) ≡ Some commands.Spool → Runs (IsSaid (M.faults make.old) (M.faults make.new))
+        (inflow F.left F.ended F.faults conf.old conf.new)
+        ((src.new ≡ src.old) × (snk.new ≡ snk.old) × (clock.new ≡ clock.old) × (keep.new ≡ keep.old) × (result.briefs ≡ [])) result.fault
+        (λ site. (src.new ≡ src.old) × (result.briefs ≡ []) × ((lists : Lists) × SpoolRun list_leads (first_lists site.options) lists (keeping P.rows P.append_faults P.other_faults keep.old) (keeping P.rows P.append_faults P.other_faults keep.new) site
+        (outflow K.taken K.faults snk.old snk.new)
+        (C.gave clock.old clock.new) result.fault)) }
 {
     match read_words(alloc, words) {
         Ok(Command::Pipe { die }) => {
             if die.as_slice().is_empty() {
-                return pipe(alloc, conf, make, src, snk, clock);
+                return pipe(alloc, conf, make, src, snk, clock, keep);
             }
             refused(alloc, RunFault::Usage)
         }
+        Ok(Command::Spool) => spool_over(alloc, conf, make, snk, clock, keep),
         Ok(Command::Load { first, count }) => load_over(
             alloc, first, count, conf, make, snk, clock,
         ),
@@ -82,46 +97,48 @@ fn refused(alloc: Global, fault: RunFault) -> RunEnd
 }
 
 // `pipe`, over the configuration that is read first.
-fn pipe<F: Source, M: Patterns, S: Source, K: Sink, C: Clock>(
+fn pipe<F: Source, M: Patterns, S: Source, K: Sink, C: Clock, P: Keeper>(
     alloc: Global,
     conf: &mut F,
     make: &mut M,
     src: &mut S,
     snk: &mut K,
     clock: &mut C,
+    keep: &mut P,
 ) -> RunEnd
     ensures status { result.status ≡ status_of result.fault }
     ensures pipes { Runs (IsSaid (M.faults make.old) (M.faults make.new))
         (inflow F.left F.ended F.faults conf.old conf.new)
-        ((src.new ≡ src.old) × (snk.new ≡ snk.old) × (clock.new ≡ clock.old) × (result.briefs ≡ [])) result.fault
-        (λ site. PipeRun list_leads (empty_lists site.options) unbounded site
+        ((src.new ≡ src.old) × (snk.new ≡ snk.old) × (clock.new ≡ clock.old) × (keep.new ≡ keep.old) × (result.briefs ≡ [])) result.fault
+        (λ site. (lists : Lists) × PipeRun (both_lead list_leads) (first_lists site.options, keeping P.rows P.append_faults P.other_faults keep.old) (lists, keeping P.rows P.append_faults P.other_faults keep.new) unbounded site
         (inflow S.left S.ended S.faults src.old src.new)
         (outflow K.taken K.faults snk.old snk.new)
         (C.gave clock.old clock.new) result.briefs result.fault) }
 {
     match configuration(alloc, conf, make) {
-        Ok(conf) => piped(alloc, conf, src, snk, clock),
+        Ok(conf) => piped(alloc, conf, src, snk, clock, keep),
         Err(fault) => refused(alloc, fault),
     }
 }
 
 // `pipe`, over a configuration.
-fn piped<S: Source, K: Sink, C: Clock>(
+fn piped<S: Source, K: Sink, C: Clock, P: Keeper>(
     alloc: Global,
     conf: Conf,
     src: &mut S,
     snk: &mut K,
     clock: &mut C,
+    keep: &mut P,
 ) -> RunEnd
-    requires caches { AreCaches conf.caches }
-    requires known { AskCachesBelow (length conf.caches) (rules_of conf.routes) }
+    requires parts { ArePartsOfSite conf.caches conf.areas }
+    requires known { AskPartsBelow (parts_in conf) (rules_of conf.routes) }
     ensures status { result.status ≡ status_of result.fault }
-    ensures pipes { (site : Site) → IsSiteOf conf site → PipeRun list_leads (empty_lists site.options) unbounded site
+    ensures pipes { (site : Site) → IsSiteOf conf site → (lists : Lists) × PipeRun (both_lead list_leads) (first_lists site.options, keeping P.rows P.append_faults P.other_faults keep.old) (lists, keeping P.rows P.append_faults P.other_faults keep.new) unbounded site
         (inflow S.left S.ended S.faults src.old src.new)
         (outflow K.taken K.faults snk.old snk.new)
         (C.gave clock.old clock.new) result.briefs result.fault }
 {
-    let mut desk = match ListDesk::new(alloc, &conf.caches) {
+    let mut desk = match ListDesk::new(alloc, &conf.caches, &conf.areas) {
         Ok(desk) => desk,
         Err(_) => return refused(alloc, RunFault::Memory),
     };
@@ -135,6 +152,7 @@ fn piped<S: Source, K: Sink, C: Clock>(
         &mut searches,
         &conf,
         &mut desk,
+        keep,
         &mut briefs,
         src,
         snk,
@@ -166,6 +184,33 @@ fn load_over<F: Source, M: Patterns, K: Sink, C: Clock>(
     match configuration_with_a_cache(alloc, conf, make) {
         Ok(conf) => {
             let fault = load(alloc, conf, first, count, snk, clock);
+            RunEnd::new(fault, BriefList::new(alloc))
+        }
+        Err(fault) => refused(alloc, fault),
+    }
+}
+
+// `spool`, over the configuration that is read first.
+fn spool_over<F: Source, M: Patterns, K: Sink, C: Clock, P: Keeper>(
+    alloc: Global,
+    conf: &mut F,
+    make: &mut M,
+    snk: &mut K,
+    clock: &mut C,
+    keep: &mut P,
+) -> RunEnd
+    ensures status { result.status ≡ status_of result.fault }
+    ensures briefs { result.briefs ≡ [] }
+    ensures spools { Runs (IsSaid (M.faults make.old) (M.faults make.new))
+        (inflow F.left F.ended F.faults conf.old conf.new)
+        ((snk.new ≡ snk.old) × (clock.new ≡ clock.old) × (keep.new ≡ keep.old)) result.fault
+        (λ site. (lists : Lists) × SpoolRun list_leads (first_lists site.options) lists (keeping P.rows P.append_faults P.other_faults keep.old) (keeping P.rows P.append_faults P.other_faults keep.new) site
+        (outflow K.taken K.faults snk.old snk.new)
+        (C.gave clock.old clock.new) result.fault) }
+{
+    match configuration(alloc, conf, make) {
+        Ok(conf) => {
+            let fault = spooled(alloc, conf, snk, clock, keep);
             RunEnd::new(fault, BriefList::new(alloc))
         }
         Err(fault) => refused(alloc, fault),

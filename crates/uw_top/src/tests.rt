@@ -2,11 +2,12 @@
 use crate::{RunEnd, fault_text, run};
 use std::alloc::{AllocError, Global};
 use std::test::Fail;
+use uw_keeper::MemKeeper;
 use uw_outside::{BytesIn, BytesOut, FixedClock};
 use uw_rules::RegexPatterns;
 
-// A run: its words, its configuration and input, the reads and writes that fail, the patterns that are refused, and what
-// comes of it.
+// A run over a keeper without a row: its words, its configuration and input, the reads, writes and calls of the keeper
+// that fail, the patterns that are refused, and what comes of it.
 #[derive(Clone, Copy)]
 struct Case {
     words: &'static [&'static str],
@@ -16,17 +17,19 @@ struct Case {
     patterns_refused: &'static [u64],
     read_fails: &'static [u64],
     write_fails: &'static [u64],
+    keeper_fails: &'static [u64],
     output: &'static [u8],
     status: u8,
     text: &'static [u8],
 }
 
-// What a run wrote, and how it ended.
+// What a run wrote, how it ended, and the bytes of the rows that it left, each behind its number.
 #[derive(Drop)]
 struct Report {
     end: RunEnd,
     output: Vec<u8>,
     text: Vec<u8>,
+    rows: Vec<u8>,
 }
 
 // A run of a case over an input, at these moments.
@@ -44,6 +47,7 @@ fn ran(alloc: Global, case: &Case, input: &[u8], moments: &[u64]) -> Result<Repo
     let mut src = BytesIn::new(input.to_vec(alloc)?, case.read_fails.to_vec(alloc)?);
     let mut snk = BytesOut::new(Vec::new(alloc), case.write_fails.to_vec(alloc)?);
     let mut clock = FixedClock::new(asked);
+    let mut keep = MemKeeper::new(Vec::new(alloc), case.keeper_fails.to_vec(alloc)?);
     let end = run(
         alloc,
         words.as_slice(),
@@ -52,7 +56,13 @@ fn ran(alloc: Global, case: &Case, input: &[u8], moments: &[u64]) -> Result<Repo
         &mut src,
         &mut snk,
         &mut clock,
+        &mut keep,
     );
+    let mut rows = Vec::new(alloc);
+    for row in keep.rows() {
+        rows.push((row.number % 256) as u8)?;
+        rows.extend_from_slice(row.bytes.as_slice())?;
+    }
     let text = match &end.fault {
         Some(fault) => match fault_text(alloc, fault) {
             Ok(text) => text.into_vec(),
@@ -64,6 +74,7 @@ fn ran(alloc: Global, case: &Case, input: &[u8], moments: &[u64]) -> Result<Repo
         end,
         output: snk.taken().to_vec(alloc)?,
         text,
+        rows,
     })
 }
 
@@ -85,6 +96,7 @@ const PIPE: Case = Case {
     patterns_refused: &[],
     read_fails: &[],
     write_fails: &[],
+    keeper_fails: &[],
     output: b"",
     status: 0,
     text: b"",
@@ -379,15 +391,111 @@ const CASES: [Case; 45] = [
     },
 ];
 
+// The first case that comes out otherwise.
+fn wrong(alloc: Global, cases: &[Case]) -> Result<Option<usize>, AllocError> {
+    for (number, case) in cases.iter().enumerate() {
+        let ran = ran(alloc, case, case.input, &[])?;
+        let is_told = ran.end.status == case.status && ran.text.as_slice() == case.text;
+        if !is_told || ran.output.as_slice() != case.output {
+            return Ok(Some(number));
+        }
+    }
+    Ok(None)
+}
+
 #[test]
 fn each_run_writes_its_output_and_ends_with_its_status(rt: HostRuntime) -> Result<(), Fail> {
+    assert_eq!(rt; wrong(rt.alloc(), &CASES)?, None);
+    Ok(())
+}
+
+const REQUESTS: [Case; 7] = [
+    // Requests through rules, with a jump and a cached page.
+    Case {
+        conf: b"[uwsgi]\ncache2 = name=c,items=4,blocksize=64\nroute-run = addheader:X-Via: uw\nroute = ^/go/(.+)$ goto:there\nroute = ^/c/(.+)$ cache:key=$1,content_type=text/plain\nroute-run = break:404 Not Found\nroute-label = there\nroute-run = send:there ${PATH_INFO}\n",
+        input: b"o\x06\x00\x01\x01\x00k\x01\x00v\x00\x12\x00\x00\x09\x00PATH_INFO\x05\x00/go/x\x00\x11\x00\x00\x09\x00PATH_INFO\x04\x00/c/k\x00\x11\x00\x00\x09\x00PATH_INFO\x04\x00/c/z\x00\x0f\x00\x00\x09\x00PATH_INFO\x02\x00/q",
+        output: b"\x02\x00\x00\x00ok=\x00\x00\x00HTTP/1.1 200 OK\r\nX-Via: uw\r\nContent-Length: 11\r\n\r\nthere /go/xL\x00\x00\x00HTTP/1.1 200 OK\r\nX-Via: uw\r\nContent-Type: text/plain\r\nContent-Length: 1\r\n\r\nv8\x00\x00\x00HTTP/1.1 404 Not Found\r\nX-Via: uw\r\nContent-Length: 0\r\n\r\n8\x00\x00\x00HTTP/1.1 404 Not Found\r\nX-Via: uw\r\nContent-Length: 0\r\n\r\n",
+        ..PIPE
+    },
+    // A body is passed over.
+    Case {
+        input: b"\x00\x13\x00\x00\x0e\x00CONTENT_LENGTH\x01\x002abo\x01\x00\x00k",
+        output: b"V\x00\x00\x00HTTP/1.1 404 Not Found\r\nContent-Type: text/plain\r\nContent-Length: 14\r\n\r\n404 Not Found\n\x00\x00\x00\x00",
+        ..PIPE
+    },
+    // A body is cut, or its length cannot be read.
+    Case {
+        input: b"\x00\x13\x00\x00\x0e\x00CONTENT_LENGTH\x01\x002a",
+        status: 5,
+        text: b"truncated: got 1, want 2",
+        ..PIPE
+    },
+    Case {
+        input: b"\x00\x13\x00\x00\x0e\x00CONTENT_LENGTH\x01\x00x",
+        status: 6,
+        text: b"bad content length",
+        ..PIPE
+    },
+    Case {
+        input: b"\x00\x1c\x00\x00\x0e\x00CONTENT_LENGTH\n\x001073741825",
+        status: 6,
+        text: b"bad content length",
+        ..PIPE
+    },
+    // A block ends behind a key.
+    Case {
+        input: b"\x00\x06\x00\x00\x01\x00A\x02\x00B",
+        status: 6,
+        text: b"bad block at 3",
+        ..PIPE
+    },
+    // Variables that are reckoned.
+    Case {
+        conf: b"[uwsgi]\ncache2 = name=c,items=4,blocksize=64\nroute-run = send:${time[unix]} ${httptime[0]} ${base64[A]} ${qs[q]}\n",
+        input: b"\x00<\x00\x00\x01\x00A\x06\x00foobar\x0c\x00QUERY_STRING\x0b\x00p=1&q=a%20b\x0e\x00REQUEST_METHOD\x04\x00HEAD",
+        output: b"'\x00\x00\x00HTTP/1.1 200 OK\r\nContent-Length: 45\r\n\r\n",
+        ..PIPE
+    },
+];
+
+#[test]
+fn each_request_has_its_reply(rt: HostRuntime) -> Result<(), Fail> {
+    assert_eq!(rt; wrong(rt.alloc(), &REQUESTS)?, None);
+    Ok(())
+}
+
+// Areas, and tasks that are put aside.
+const AREAS_AND_TASKS: [Case; 3] = [
+    Case {
+        conf: b"[uwsgi]\nsharedarea = size=16\nroute-run = areaset:area=0,at=8,width=64,value=258,var=A\nroute-run = areaset:area=0,at=9,width=64,value=1,var=B\nroute-run = areaset:area=0,at=0,width=8,value=255\nroute-run = areainc:area=0,at=0,width=8,by=1,var=C\nroute-run = areanum:area=0,at=8,width=16,var=D\nroute-run = send:${A}|${B}|${C}|${D}\n",
+        input: b"\x00\x00\x00\x00",
+        output: b"\x3b\x00\x00\x00HTTP/1.1 200 OK\r\nContent-Length: 20\r\n\r\nok|out of area|0|258",
+        ..PIPE
+    },
+    Case {
+        input: TASK,
+        output: b"\x17\x00\x00\x00ok 00000000000000000001",
+        ..PIPE
+    },
+    Case {
+        input: TASK,
+        keeper_fails: &[1],
+        output: b"\x06\x00\x00\x00failed",
+        ..PIPE
+    },
+];
+
+const TASK: &[u8] = b"\x11\x0c\x00\x00\x04\x00kind\x04\x00done";
+
+#[test]
+fn areas_are_written_and_tasks_are_put_aside(rt: HostRuntime) -> Result<(), Fail> {
     let alloc = rt.alloc();
-    for (number, case) in CASES.iter().enumerate() {
-        let ran = ran(alloc, case, case.input, &[])?;
-        assert_eq!(rt; ran.end.status, case.status, "case {number}");
-        assert_eq!(rt; ran.output.as_slice(), case.output, "case {number}");
-        assert_eq!(rt; ran.text.as_slice(), case.text, "case {number}");
-    }
+    assert_eq!(rt; wrong(alloc, &AREAS_AND_TASKS)?, None);
+    let task = ran(alloc, &PIPE, TASK, &[])?;
+    assert_eq!(rt;
+        task.rows.as_slice(),
+        b"\x01\x11\x0c\x00\x00\x04\x00kind\x04\x00done".as_slice()
+    );
     Ok(())
 }
 

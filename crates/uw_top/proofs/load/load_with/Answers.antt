@@ -1,7 +1,20 @@
-use Rattle.std.proofs.Common.{◌∙◌, arith}
+use Rattle.std.proofs.Common.{◌∙◌, arith, subst, sym}
 use Rattle.uw_top.proofs.LoadLemmas.{packets_more, one_loaded, load_stops, load_ends}
 use Rattle.uw_top.specs.LoadSteps.{answer_behind}
+use Rattle.uw_model.specs.Asks.{DeskParts}
+use Rattle.uw_rules.specs.PartNumbers.{AskPartsBelow}
+use Rattle.uw_rules.specs.Compiled.{rules_of}
+use Rattle.uw_session.specs.Exchange.{HasParts}
+use Rattle.uw_top.proofs.Parts.{has_own_parts}
 use Rattle.uw_top.proofs.load.load_with.Goals as goal
+
+pub answer_number-requires-clause-enough : goal.answer_number-requires-clause-enough
+answer_number-requires-clause-enough g c =
+    subst (λ (parts : DeskParts). HasParts parts c.args.conf.now) (sym c.loop-served.invariant.parts) (has_own_parts c.args.conf.now)
+
+pub answer_number-requires-clause-known : goal.answer_number-requires-clause-known
+answer_number-requires-clause-known g c =
+    subst (λ (parts : DeskParts). AskPartsBelow parts (rules_of c.args.conf.now.routes)) (sym c.loop-served.invariant.parts) c.requires.known
 
 pub returns-in-Err : goal.returns-in-Err
 returns-in-Err g c = λ site is.
@@ -21,7 +34,7 @@ loop-served-preserved g c =
       loaded = λ site is. one_loaded g.C.Clock.gave g.met.C.Clock.gave_more site.options _ now.x _ now.desk.caches _ now.figures _ _ now.clock _ c.now-moment.result now.served answered
           c.next_number-x.ensures.next counted.more (i.loaded site is) c.now-moment.ensures (a.answer site is);
       fits = a.fits;
-      caches = a.caches ∙ i.caches;
+      parts = a.parts ∙ i.parts;
       small = c.next_number-x.ensures.small;
       counted = counted.counted;
       packets = packets_more now.figures c.count.new.self (answer_behind answered.asks) answered.reply now.served counted.more i.packets;

@@ -1,17 +1,18 @@
 use Rattle.std.proofs.Common.{◌∙◌, arith}
+use Rattle.uw_top.specs.Pipe.{both_lead}
 use Rattle.uw_top.proofs.Machine.{none_yet, one_more, run_ends, run_is_full}
 use Rattle.uw_top.proofs.pipe.serve.Goals as goal
 
 pub returns-in-Ok-false : goal.returns-in-Ok-false
 returns-in-Ok-false g c = λ site is.
     let i = c.loop-served.invariant in
-    run_ends g.C.Clock.gave g.met.C.Clock.gave_more g.D.Desk.leads _ _ _ site _ _ _ _ _ _ _ _ _ _ _ _ _ _ _ _ _ _ c.loop-served.served _ i.src i.snk c.loop-served-test.true (i.so_far site is)
+    run_ends g.C.Clock.gave g.met.C.Clock.gave_more (both_lead g.D.Desk.leads) _ _ _ site _ _ _ _ _ _ _ _ _ _ _ _ _ _ _ _ _ _ c.loop-served.served _ i.src i.snk c.loop-served-test.true (i.so_far site is)
     (rw c.in-Ok-false.field-0-test at (c.in-Ok-false.ensures.turn site is))
 
 pub returns-in-Err : goal.returns-in-Err
 returns-in-Err g c = λ site is.
     let i = c.loop-served.invariant in
-    run_ends g.C.Clock.gave g.met.C.Clock.gave_more g.D.Desk.leads _ _ _ site _ _ _ _ _ _ _ _ _ _ _ _ _ _ _ _ _ _ c.loop-served.served _ i.src i.snk c.loop-served-test.true (i.so_far site is)
+    run_ends g.C.Clock.gave g.met.C.Clock.gave_more (both_lead g.D.Desk.leads) _ _ _ site _ _ _ _ _ _ _ _ _ _ _ _ _ _ _ _ _ _ c.loop-served.served _ i.src i.snk c.loop-served-test.true (i.so_far site is)
     (c.in-Err.ensures.turn site is)
 
 pub loop-served-preserved : goal.loop-served-preserved
@@ -19,9 +20,9 @@ loop-served-preserved g c =
     let i = c.loop-served.invariant in
     let e = c.in-Ok-true.ensures in
     record {
-      so_far = λ site is. one_more g.C.Clock.gave g.met.C.Clock.gave_more g.D.Desk.leads _ _ _ site _ _ _ _ _ _ _ _ _ _ _ _ _ _ _ _ _ (i.so_far site is) (rw c.in-Ok-true.field-0-test at (e.turn site is));
+      so_far = λ site is. one_more g.C.Clock.gave g.met.C.Clock.gave_more (both_lead g.D.Desk.leads) _ _ _ site _ _ _ _ _ _ _ _ _ _ _ _ _ _ _ _ _ (i.so_far site is) (rw c.in-Ok-true.field-0-test at (e.turn site is));
       fits = e.fits;
-      caches = e.caches ∙ i.caches;
+      parts = e.parts ∙ i.parts;
       src = omega (arith, e.src, i.src);
       snk = omega (arith, e.snk, i.snk);
     }
@@ -29,4 +30,4 @@ loop-served-preserved g c =
 pub returns : goal.returns
 returns g c = λ site is.
     let i = c.loop-served.invariant in
-    run_is_full g.C.Clock.gave g.D.Desk.leads _ _ site _ _ _ _ _ _ c.args.clock.now c.loop-served.clock _ _ _ _ _ _ _ c.loop-served.served i.src (omega arith) (i.so_far site is) c.look_further.ensures.further
+    run_is_full g.C.Clock.gave (both_lead g.D.Desk.leads) _ _ site _ _ _ _ _ _ c.args.clock.now c.loop-served.clock _ _ _ _ _ _ _ c.loop-served.served i.src (omega arith) (i.so_far site is) c.look_further.ensures.further

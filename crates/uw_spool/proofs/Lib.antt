@@ -1,0 +1,4 @@
+pub mod LawLemmas
+pub mod RoundLemmas
+pub mod RowsBehind
+pub mod TurnLemmas

@@ -1,0 +1,19 @@
+-- The parts of the plain lists that a configuration begins with.
+use Rattle.std.proofs.Common.{◌≡◌, ap, ap₂, ◌∙◌, arith}
+use Rattle.std.proofs.lemmas.List.{length-map}
+use Rattle.uw_model.specs.Asks.{DeskParts}
+use Rattle.uw_model.specs.Lists.{Lists, empty_lists}
+use Rattle.uw_conf.specs.declared.conf.Conf.{Conf}
+use Rattle.uw_conf.specs.Given.{parts_in}
+use Rattle.uw_session.specs.Exchange.{HasParts}
+use Rattle.uw_top.specs.LoadSteps.{parts_of_lists}
+
+-- empty lists have the parts of their configuration
+pub empty_parts : (conf : Conf) (lists : Lists) → lists ≡ empty_lists conf.caches conf.areas → parts_of_lists lists ≡ parts_in conf
+empty_parts conf lists empty =
+    ap parts_of_lists empty
+    ∙ ap₂ (λ caches areas. let parts : DeskParts = record { caches = caches; areas = areas } in parts) (length-map conf.caches _) (length-map conf.areas _)
+
+-- a configuration's own parts are enough for it
+pub has_own_parts : (conf : Conf) → HasParts (parts_in conf) conf
+has_own_parts conf = record { caches = omega arith; areas = omega arith }
