@@ -1,3 +1,4 @@
 pub mod Numbers
 pub mod Variables
+pub mod VariableSteps
 pub mod Texts

@@ -1,31 +1,43 @@
 // Variables: pairs of a key and a value.
-ghost use Rattle.std.specs.Prelude.{◌≡◌, List, [], ◌∷◌, ◌++◌, length, OnOk, OnErr};
+ghost use Rattle.std.specs.Prelude.{◌≡◌, ◌<◌, List, [], ◌∷◌, ◌++◌, length, slice_get, Some, IfOk, OnOk, OnErr};
 ghost use Rattle.uw_base.specs.Variables.{value_of};
 
 use crate::{Bytes, Memory};
 use std::alloc::Global;
 use std::marker::Model;
 
-/// A variable: its key and its value.
+/// A variable: its key and its value. Contracts see variables as a list of these.
 #[derive(Drop)]
 pub struct Pair {
     pub key: Bytes,
     pub value: Bytes,
 }
 
-/// Variables in their order. Contracts see them as the list of pairs.
+// Where a variable stands in the bytes: its key from `start` to `middle`, and its value from there to `end`.
+#[derive(Clone, Copy)]
+struct Span {
+    start: usize,
+    middle: usize,
+    end: usize,
+}
+
+/// Variables in their order, all of them in one buffer. Contracts see them as the list of pairs.
 #[derive(Drop)]
 pub struct Vars {
-    pairs: Vec<Pair>,
+    bytes: Bytes,
+    spans: Vec<Span>,
 }
 
 impl Model for Vars {
-    ghost use Rattle.std.specs.Prelude.{List};
+    ghost use Rattle.std.specs.Prelude.{List, length};
     ghost use Rattle.uw_base.specs.declared.variables.Pair.{Pair};
+    ghost use Rattle.uw_base.specs.VariableSteps.{AreWithin, pairs_at};
 
     ghost Value = { List Pair };
 
-    ghost view = { λ v. v.pairs.items };
+    ghost view = { λ v. pairs_at v.bytes v.spans.items };
+
+    ghost invariant = { λ v. AreWithin (length v.bytes) v.spans.items };
 }
 
 impl Vars {
@@ -34,59 +46,62 @@ impl Vars {
         ensures { result ≡ [] }
     {
         Vars {
-            pairs: Vec::new(alloc),
+            bytes: Bytes::new(alloc),
+            spans: Vec::new(alloc),
         }
     }
 
-    /// The variables of a vector. Takes no memory.
-    pub fn from_vec(pairs: Vec<Pair>) -> Vars
-        ensures { result ≡ pairs.items }
+    /// No variable, with room for so many and their bytes.
+    pub fn with_room(alloc: Global, pairs: usize, bytes: usize) -> Result<Vars, Memory>
+        ensures { IfOk result (λ vars. vars ≡ []) }
     {
-        Vars { pairs }
-    }
-
-    pub fn as_slice(&self) -> &[Pair]
-        ensures { result.now ≡ self.now }
-    {
-        self.pairs.as_slice()
+        Ok(Vars {
+            bytes: Bytes::from_vec(Vec::with_capacity(alloc, bytes)?),
+            spans: Vec::with_capacity(alloc, pairs)?,
+        })
     }
 
     /// The number of pairs.
     pub fn len(&self) -> usize
         ensures { result ≡ length self.now }
     {
-        self.pairs.len()
+        self.spans.len()
     }
 
-    /// Puts one pair at the end.
-    pub fn push(&mut self, pair: Pair) -> Result<(), Memory>
-        ensures ok { OnOk result (self.new ≡ self.old ++ pair ∷ []) }
-        ensures err { OnErr result (self.new ≡ self.old) }
+    /// The key and the value of the pair at a place. Takes no memory.
+    pub fn pair(&self, place: usize) -> (&[u8], &[u8])
+        requires { place < length self.now }
+        ensures { slice_get self.now place ≡ Some (record { key = result.0.now; value = result.1.now }) }
     {
-        self.pairs.push(pair)?;
-        Ok(())
+        let Span { start, middle, end } = self.spans[place];
+        let bytes = self.bytes.as_slice();
+        (&bytes[start..middle], &bytes[middle..end])
     }
 
     /// The value of the last pair of the key, or the empty text where there is none. Takes no memory.
     pub fn get(&self, key: &[u8]) -> &[u8]
         ensures { result.now ≡ value_of self.now key.now }
     {
-        for index in (0..self.pairs.len()).rev() {
-            let pair = &self.pairs[index];
-            if pair.key.as_slice() == key {
-                return pair.value.as_slice();
+        for place in (0..self.len()).rev() {
+            let pair = self.pair(place);
+            if pair.0 == key {
+                return pair.1;
             }
         }
         &[]
     }
 
     /// Puts a pair of copies of the key and the value at the end, so that the key has this value from now on.
-    pub fn set(&mut self, alloc: Global, key: &[u8], value: &[u8]) -> Result<(), Memory>
+    pub fn set(&mut self, key: &[u8], value: &[u8]) -> Result<(), Memory>
         ensures ok { OnOk result (self.new ≡ self.old ++ record { key = key.now; value = value.now } ∷ []) }
         ensures err { OnErr result (self.new ≡ self.old) }
     {
-        let key = Bytes::from_slice(alloc, key)?;
-        let value = Bytes::from_slice(alloc, value)?;
-        self.push(Pair { key, value })
+        let start = self.bytes.len();
+        self.bytes.append(key)?;
+        let middle = self.bytes.len();
+        self.bytes.append(value)?;
+        let end = self.bytes.len();
+        self.spans.push(Span { start, middle, end })?;
+        Ok(())
     }
 }

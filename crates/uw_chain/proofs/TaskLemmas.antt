@@ -1,11 +1,12 @@
 -- The variables of tasks, their blocks and their rows.
-use Rattle.std.proofs.Common.{◌≡◌, refl, sym, ap, ◌∙◌, subst, ℕ, zero, suc, ◌+◌, ◌-◌, ◌<◌, ◌≤◌, Bool, true, false, not, ◌&&◌, if◌then◌else◌, ltb, List, [], ◌∷◌, ◌++◌, length, drop, get_or, Option, None, Some, Result, Ok, Err, is_some, append_assoc, length-append, arith}
+use Rattle.std.proofs.Common.{◌≡◌, refl, sym, ap, ◌∙◌, subst, ℕ, zero, suc, ◌+◌, ◌-◌, ◌<◌, ◌≤◌, Bool, true, false, not, ◌&&◌, if◌then◌else◌, ltb, List, [], ◌∷◌, ◌++◌, length, drop, slice_get, get_or, Option, None, Some, Result, Ok, Err, is_some, append_assoc, length-append, arith}
 use Rattle.std.specs.Prelude.{codes, IsSome, nat_lt, filter, option_map}
 use Rattle.std.specs.List.{list_all}
 use Rattle.std.specs.Str.{bytes_eq}
 use Rattle.std.proofs.lemmas.Bool.{false≢true, lt-ltb, le-ltb, ltb-true}
 use Rattle.std.proofs.lemmas.List.{append-nil, drop_all}
 use Rattle.uw_base.specs.declared.variables.Pair.{Pair}
+use Rattle.uw_base.proofs.VariableLemmas.{drop_here}
 use Rattle.uw_packet.specs.Blocks.{array_of, sized, texts_of_pairs}
 use Rattle.uw_packet.specs.BlockReads.{vars_block}
 use Rattle.uw_rules.specs.declared.compiled.TaskPair.{TaskPair}
@@ -75,6 +76,33 @@ pub whole_block : (pairs : List Pair) (at size : ℕ) → length pairs ≤ at �
 whole_block pairs at size end so_far =
     let none : length (array_of (texts_of_pairs (drop at pairs))) ≡ 0 = ap (λ (rest : List Pair). length (array_of (texts_of_pairs rest))) (drop_all at pairs end) in
     omega (arith, none, so_far)
+
+-- the bytes of a pair, between those before it and those behind it
+pub with_pair : (pairs : List Pair) (at size : ℕ) (pair : Pair) → slice_get pairs at ≡ Some pair → size + length (array_of (texts_of_pairs (drop at pairs))) ≡ length (array_of (texts_of_pairs pairs))
+    → size + (4 + length pair.key + length pair.value + length (array_of (texts_of_pairs (drop (at + 1) pairs)))) ≡ length (array_of (texts_of_pairs pairs))
+with_pair pairs at size pair is so_far =
+    let here : length (array_of (texts_of_pairs (drop at pairs))) ≡ length (array_of (texts_of_pairs (pair ∷ drop (at + 1) pairs))) =
+    ap (λ (rest : List Pair). length (array_of (texts_of_pairs rest))) (drop_here pairs at pair is) in
+    omega (arith, here, pair_length pair (drop (at + 1) pairs), so_far)
+
+-- ---- the variables so far
+
+-- a pair that is no body is one more
+pub with_variable : (pairs vars now : List Pair) (at : ℕ) (pair : Pair) → slice_get pairs at ≡ Some pair → bytes_eq pair.key (codes "body") ≡ false → now ≡ vars ++ pair ∷ []
+    → vars ++ task_vars (drop at pairs) ≡ task_vars pairs → now ++ task_vars (drop (at + 1) pairs) ≡ task_vars pairs
+with_variable pairs vars now at pair is other put so_far =
+    let rest = drop (at + 1) pairs in
+    let kept : task_vars (pair ∷ rest) ≡ pair ∷ task_vars rest = rw other refl in
+    ap (λ (front : List Pair). front ++ task_vars rest) put ∙ append_assoc vars (pair ∷ []) (task_vars rest)
+    ∙ ap (λ (more : List Pair). vars ++ more) (sym kept) ∙ ap (λ (more : List Pair). vars ++ task_vars more) (sym (drop_here pairs at pair is)) ∙ so_far
+
+-- the body is passed over
+pub without_body : (pairs vars : List Pair) (at : ℕ) (pair : Pair) → slice_get pairs at ≡ Some pair → bytes_eq pair.key (codes "body") ≡ true
+    → vars ++ task_vars (drop at pairs) ≡ task_vars pairs → vars ++ task_vars (drop (at + 1) pairs) ≡ task_vars pairs
+without_body pairs vars at pair is body so_far =
+    let rest = drop (at + 1) pairs in
+    let passed : task_vars (pair ∷ rest) ≡ task_vars rest = rw body refl in
+    ap (λ (more : List Pair). vars ++ more) (sym passed) ∙ ap (λ (more : List Pair). vars ++ task_vars more) (sym (drop_here pairs at pair is)) ∙ so_far
 
 -- ---- filled pairs
 

@@ -1,4 +1,4 @@
--- How a request ends: its reply (own rule, in the form of HTTP/1.1).
+-- How rules end: a request's reply (own rule, in the form of HTTP/1.1), and a task's status.
 use Rattle.std.specs.Prelude.{ℕ, ◌==◌, Bool, false, not, if◌then◌else◌, List, [], ◌∷◌, ◌++◌, codes, Option, None, Some, ℤ, pos, negsuc}
 use Rattle.std.specs.Str.{bytes_eq}
 use Rattle.uw_base.specs.declared.variables.Pair.{Pair}

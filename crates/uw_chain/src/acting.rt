@@ -63,9 +63,9 @@ fn rewrite(
         return Ok(Outcome::Ends(Ending::Failing, request));
     };
     let (path, query) = cut(text.as_slice(), b'?');
-    request.vars.set(alloc, b"PATH_INFO", path)?;
+    request.vars.set(b"PATH_INFO", path)?;
     if let Some(query) = query {
-        request.vars.set(alloc, b"QUERY_STRING", query)?;
+        request.vars.set(b"QUERY_STRING", query)?;
     }
     Ok(Outcome::GoesOn(request))
 }
@@ -85,7 +85,7 @@ fn add_variable(
     let Some(value) = text(alloc, value, &request, captures, moment)? else {
         return Ok(Outcome::Ends(Ending::Failing, request));
     };
-    request.vars.set(alloc, key, value.as_slice())?;
+    request.vars.set(key, value.as_slice())?;
     Ok(Outcome::GoesOn(request))
 }
 

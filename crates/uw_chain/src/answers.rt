@@ -75,7 +75,7 @@ fn keep_answer(
             AskAnswer::Area(answer) => area_text(alloc, answer)?,
             AskAnswer::Spool(_) => return Ok(Outcome::GoesOn(request)),
         };
-        request.vars.set(alloc, var.as_slice(), text.as_slice())?;
+        request.vars.set(var.as_slice(), text.as_slice())?;
     }
     Ok(Outcome::GoesOn(request))
 }

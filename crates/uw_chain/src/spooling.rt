@@ -7,7 +7,7 @@ ghost use Rattle.uw_chain.specs.Spooling.{PutsTask, row_bytes, task_body, task_v
 
 use std::alloc::Global;
 use uw_base::texts::is;
-use uw_base::{Bytes, Memory, Pair, Vars};
+use uw_base::{Bytes, Memory, Vars};
 use uw_keeper::{KeepFault, Keeper};
 use uw_model::SpoolAnswer;
 use uw_packet::write_vars;
@@ -75,12 +75,10 @@ fn vars_of_task(alloc: Global, pairs: &Vars) -> Result<Vars, Memory>
     ensures { IfOk result (λ vars. vars ≡ task_vars pairs.now) }
 {
     let mut vars = Vars::new(alloc);
-    for pair in pairs.as_slice() {
-        if !is(pair.key.as_slice(), b"body") {
-            vars.push(Pair {
-                key: Bytes::from_slice(alloc, pair.key.as_slice())?,
-                value: Bytes::from_slice(alloc, pair.value.as_slice())?,
-            })?;
+    for place in 0..pairs.len() {
+        let (key, value) = pairs.pair(place);
+        if !is(key, b"body") {
+            vars.set(key, value)?;
         }
     }
     Ok(vars)
@@ -91,13 +89,12 @@ pub fn has_block(vars: &Vars) -> bool
     ensures { result ≡ is_some (vars_block vars.now) }
 {
     let mut length = 0;
-    for pair in vars.as_slice() {
-        let key = pair.key.len();
-        let value = pair.value.len();
-        if key > LONGEST || value > LONGEST {
+    for place in 0..vars.len() {
+        let (key, value) = vars.pair(place);
+        if key.len() > LONGEST || value.len() > LONGEST {
             return false;
         }
-        length += 2 + key + 2 + value;
+        length += 2 + key.len() + 2 + value.len();
         if length > LONGEST {
             return false;
         }

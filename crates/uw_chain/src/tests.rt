@@ -132,7 +132,7 @@ fn two_caches(alloc: Global) -> Result<ListDesk, Memory>
 fn vars_of(alloc: Global, pairs: &[Row]) -> Result<Vars, Memory> {
     let mut vars = Vars::new(alloc);
     for (key, value) in pairs {
-        vars.set(alloc, key, value)?;
+        vars.set(key, value)?;
     }
     Ok(vars)
 }

@@ -12,7 +12,7 @@ use crate::filling::text;
 use crate::request::Request;
 use crate::spooling::{has_block, task_of};
 use std::alloc::Global;
-use uw_base::{Bytes, BytesList, Memory, Pair, Vars};
+use uw_base::{Bytes, BytesList, Memory, Vars};
 use uw_model::{AreaBytes, AreaOp, Ask, Call};
 use uw_rules::compiled::{Action, AreaStep, CacheWrite, TaskPair, TaskPairs};
 use uw_subst::Template;
@@ -237,8 +237,7 @@ fn filled_pairs(
         let Some(value) = text(alloc, &pair.value, request, captures, moment)? else {
             return Ok(None);
         };
-        let key = Bytes::from_slice(alloc, pair.key.as_slice())?;
-        filled.push(Pair { key, value })?;
+        filled.set(pair.key.as_slice(), value.as_slice())?;
     }
     Ok(Some(filled))
 }

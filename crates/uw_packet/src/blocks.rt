@@ -8,7 +8,7 @@ ghost use Rattle.uw_packet.specs.Blocks.{array_read, sized, vars_read};
 use crate::PacketFault;
 use byteorder::{ByteOrder, LittleEndian};
 use std::alloc::Global;
-use uw_base::{Bytes, BytesList, Memory, Pair, Vars};
+use uw_base::{Bytes, BytesList, Memory, Vars};
 
 /// The most bytes that a text or a block has.
 const LONGEST: usize = 65535;
@@ -56,15 +56,13 @@ pub fn read_vars(alloc: Global, block: &[u8]) -> Result<Vars, PacketFault>
     requires { length block.now < 2 ^ 32 }
     ensures { ReadsFrom (vars_read block.now) result }
 {
-    let mut vars = Vars::new(alloc);
+    // A web server's variables have some 35 bytes each.
+    let mut vars = Vars::with_room(alloc, block.len() / 32 + 8, block.len())?;
     let mut rest = block;
     while !rest.is_empty() {
         let (key, behind_key) = next_text(block, rest)?;
         let (value, behind) = next_text(block, behind_key)?;
-        vars.push(Pair {
-            key: Bytes::from_slice(alloc, key)?,
-            value: Bytes::from_slice(alloc, value)?,
-        })?;
+        vars.set(key, value)?;
         rest = behind;
     }
     Ok(vars)
@@ -93,11 +91,12 @@ pub fn write_vars(alloc: Global, vars: &Vars) -> Result<Option<Bytes>, Memory>
     ensures { IfOk result (λ block. block ≡ vars_block vars.now) }
 {
     let mut block = Bytes::new(alloc);
-    for pair in vars.as_slice() {
-        if !put_text(&mut block, pair.key.as_slice())? {
+    for place in 0..vars.len() {
+        let (key, value) = vars.pair(place);
+        if !put_text(&mut block, key)? {
             return Ok(None);
         }
-        if !put_text(&mut block, pair.value.as_slice())? {
+        if !put_text(&mut block, value)? {
             return Ok(None);
         }
     }

@@ -193,7 +193,7 @@ fn a_vars_block_is_written_up_to_65535_bytes(rt: HostRuntime) -> Result<(), Fail
     for (size, want) in rows {
         let value = vec![in rt.alloc(); b'v'; size]?;
         let mut vars = Vars::new(rt.alloc());
-        vars.set(rt.alloc(), b"k", value.as_slice())?;
+        vars.set(b"k", value.as_slice())?;
         let written = write_vars(rt.alloc(), &vars)?;
         assert_eq!(rt; written.map(|block| block.len()), want, "{size}");
     }

@@ -45,7 +45,7 @@ fn vars_with_body(alloc: Global, block: &[u8], body: &[u8]) -> Result<Option<Var
         Err(_) => return Ok(None),
     };
     if !body.is_empty() {
-        vars.set(alloc, b"body", body)?;
+        vars.set(b"body", body)?;
     }
     Ok(Some(vars))
 }

@@ -26,7 +26,7 @@ const CAPTURES: [&[u8]; 3] = [b"one", b"", b"three$1"];
 fn vars_of(alloc: Global, pairs: &[(&[u8], &[u8])]) -> Result<Vars, Fail> {
     let mut vars = Vars::new(alloc);
     for (key, value) in pairs {
-        vars.set(alloc, key, value)?;
+        vars.set(key, value)?;
     }
     Ok(vars)
 }

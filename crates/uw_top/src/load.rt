@@ -14,7 +14,7 @@ ghost use Rattle.uw_top.specs.LoadSteps.{AnswersNumber, AreCounted, CanCount, Wr
 
 use itoa::Buffer;
 use std::alloc::Global;
-use uw_base::{Bytes, Memory, Pair, Vars, put_decimal};
+use uw_base::{Bytes, Memory, Vars, put_decimal};
 use uw_chain::Searches;
 use uw_conf::Conf;
 use uw_ends::{BadPacket, RunFault};
@@ -66,26 +66,16 @@ fn with_number(alloc: Global, front: &[u8], number: u64) -> Result<Bytes, Memory
     Ok(text)
 }
 
-fn pair(alloc: Global, key: &[u8], value: Bytes) -> Result<Pair, Memory>
-    ensures { IfOk result (λ pair. pair ≡ record { key = key.now; value = value }) }
-{
-    Ok(Pair {
-        key: Bytes::from_slice(alloc, key)?,
-        value,
-    })
-}
-
 // The variables of the command block that a number makes.
 fn variables_for(alloc: Global, x: u64) -> Result<Vars, Memory>
     ensures { IfOk result (λ vars. vars ≡ variables_for x) }
 {
     let choice = x / 65_536 % 8;
     let mut vars = Vars::new(alloc);
-    let command = Bytes::from_slice(alloc, command_for(choice))?;
-    vars.push(pair(alloc, b"cmd", command)?)?;
-    vars.push(pair(alloc, b"key", with_number(alloc, b"k", x / 256 % 256)?)?)?;
+    vars.set(b"cmd", command_for(choice))?;
+    vars.set(b"key", with_number(alloc, b"k", x / 256 % 256)?.as_slice())?;
     if choice == 4 || choice == 5 {
-        vars.push(pair(alloc, b"value", with_number(alloc, b"", x)?)?)?;
+        vars.set(b"value", with_number(alloc, b"", x)?.as_slice())?;
     }
     Ok(vars)
 }

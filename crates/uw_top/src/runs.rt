@@ -31,10 +31,10 @@ use uw_model::ListDesk;
 use uw_outside::{Clock, Sink, Source};
 use uw_rules::Patterns;
 
-/// Does all that the program does. It reads the words of a command and a configuration, whose patterns `make` compiles. `pipe` then reads packets from
-/// the source, answers each by one frame into the sink, at the moments of the clock, and says how it ended; `spool`
-/// runs the rounds of all spoolers over the rows of the keeper, at one moment of the clock, and writes what they report;
-/// `load` answers packets that it makes, and writes figures.
+/// Does all that the program does. It reads the words of a command and a configuration, whose patterns `make` compiles.
+/// `pipe` then reads packets from the source, answers each by one frame into the sink, at the moments of the clock, and
+/// says how it ended; `spool` runs the rounds of all spoolers over the rows of the keeper, at one moment of the clock,
+/// and writes what they report; `load` answers packets that it makes, and writes figures.
 pub fn run<F: Source, M: Patterns, S: Source, K: Sink, C: Clock, P: Keeper>(
     alloc: Global,
     words: &[String],

@@ -8,7 +8,7 @@ use Rattle.uw_packet.proofs.blocks.read_vars.Goals as goal
 
 pub returns-in_err-key : goal.returns-in_err-key
 returns-in_err-key c =
-    let p = err_from_is_err_and c.from_residual.result c.from_residual.ensures.1 in
+    let p = err_from_is_err_and c.from_residual-in_err-key.result c.from_residual-in_err-key.ensures.1 in
     let more : 0 < length c.loop-rest.rest.now = omega (arith, eqb-false _ _ (sym c.is_empty.ensures ∙ c.loop-rest-test.true)) in
     let front = front_stops c.args.block.now c.loop-rest.rest.now (texts_of_pairs c.loop-rest.vars) c.in_err-key.ensures.broken c.loop-rest.invariant.front in
     rw (p.1, p.2, c.in_err-key.ensures.place) (vars_read-broken c.args.block.now (texts_of_pairs c.loop-rest.vars) c.loop-rest.rest.now front more)
@@ -36,7 +36,7 @@ loop-rest-preserved c =
     let front = front_goes_on c.args.block.now c.in_ok-key.behind_key.now c.in_ok-value.value.now c.in_ok-value.behind.now (texts ++ c.in_ok-key.key.now ∷ []) c.in_ok-value.ensures.whole keyed in
     record {
       within = omega arith;
-      front = rw (c.in_ok-push.ensures.ok, c.in_ok-from_slice.ensures, c.in_ok-from_slice-2.ensures, ← pair_goes_on c.loop-rest.vars c.in_ok-key.key.now c.in_ok-value.value.now) front;
+      front = rw (c.in_ok-set.ensures.ok, ← pair_goes_on c.loop-rest.vars c.in_ok-key.key.now c.in_ok-value.value.now) front;
     }
 
 pub returns : goal.returns

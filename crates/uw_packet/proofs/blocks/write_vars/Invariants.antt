@@ -3,9 +3,9 @@ use Rattle.uw_packet.specs.Blocks.{array_of, texts_of_pairs}
 use Rattle.uw_packet.proofs.blocks.write_vars.Given as goal
 
 -- the bytes so far and those of the other pairs are the whole array
-abbrev pub invariant-loop-pair : goal.invariant-loop-pair
-invariant-loop-pair l =
+abbrev pub invariant-loop-place : goal.invariant-loop-place
+invariant-loop-place l =
     record {
       short : length l.block < 65536;
-      whole : l.block ++ array_of (texts_of_pairs (drop l.pair-index l.pair-items)) ≡ array_of (texts_of_pairs l.pair-items);
+      whole : l.block ++ array_of (texts_of_pairs (drop l.place l.vars)) ≡ array_of (texts_of_pairs l.vars);
     }

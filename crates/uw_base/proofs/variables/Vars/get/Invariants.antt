@@ -2,6 +2,5 @@ use Rattle.std.proofs.Common.{◌≡◌, take}
 use Rattle.uw_base.specs.Variables.{value_of}
 use Rattle.uw_base.proofs.variables.Vars.get.Given as goal
 
-abbrev pub invariant-loop-index : goal.invariant-loop-index
-invariant-loop-index l =
-    value_of (take l.index l.self-inside.pairs.items) l.key ≡ value_of l.self-inside.pairs.items l.key
+abbrev pub invariant-loop-place : goal.invariant-loop-place
+invariant-loop-place l = value_of (take l.place l.self) l.key ≡ value_of l.self l.key
