@@ -8,6 +8,9 @@ use std::alloc::Global;
 use uw_base::{Bytes, BytesList, Memory, Vars};
 use uw_subst::{Filled, Template};
 
+/// Room that most header lines fit into, so that they are not moved as they grow.
+const LINE_ROOM: usize = 128;
+
 /// What a rule's templates are filled from: the variables, the captures of its pattern, and the moment in seconds.
 #[derive(Clone, Copy)]
 pub struct Filling<'a> {
@@ -38,7 +41,8 @@ impl Filling<'_> {
     ) -> Result<Option<Bytes>, Memory>
         ensures { IfOk result (λ line. line ≡ option_map (λ text. front.now ++ text) (filled_within template.now self.now.vars.now self.now.captures.now self.now.moment)) }
     {
-        let mut line = Bytes::from_slice(alloc, front)?;
+        let mut line = Bytes::from_vec(Vec::with_capacity(alloc, LINE_ROOM)?);
+        line.append(front)?;
         if template.fill_into(alloc, &mut line, self.vars, self.captures, self.moment)? {
             Ok(Some(line))
         } else {

@@ -2,7 +2,7 @@ use Rattle.std.proofs.Common.{◌≡◌, ◌+◌, ◌≤◌, List, ◌++◌, Opt
 use Rattle.std.proofs.lemmas.List.{length-take-le}
 use Rattle.uw_outside.specs.Streams.{Takes}
 use Rattle.uw_outside.proofs.Streams.{Takes-append}
-use Rattle.uw_packet.proofs.reading.skip_body.Goals as goal
+use Rattle.uw_packet.proofs.reading.skip_pieces.Goals as goal
 
 -- what was taken before and the front of a piece are taken together
 taken_more : (a b c : Option (List ℕ)) (n m : ℕ) (piece : List ℕ) → m ≤ length piece → ((bytes : List ℕ) × (length bytes ≡ n) × Takes a b bytes) → Takes b c (take m piece) → (bytes : List ℕ) × (length bytes ≡ n + m) × Takes a c bytes

@@ -1,6 +1,6 @@
 use Rattle.std.proofs.Common.{◌-◌, ◌≡◌, ◌≤◌, List, ℕ, length}
 use Rattle.uw_outside.specs.Streams.{Takes}
-use Rattle.uw_packet.proofs.reading.skip_body.Given as goal
+use Rattle.uw_packet.proofs.reading.skip_pieces.Given as goal
 
 abbrev pub invariant-loop-skipped : goal.invariant-loop-skipped
 invariant-loop-skipped g l =
