@@ -6,7 +6,7 @@ use Rattle.std.specs.Str.{bytes_eq}
 use Rattle.uw_base.specs.declared.variables.Pair.{Pair}
 use Rattle.uw_base.specs.declared.variables.Span.{Span}
 use Rattle.uw_base.specs.Variables.{value_after, value_of}
-use Rattle.uw_base.specs.VariableSteps.{AreWithin, IsWithin, pair_at, pairs_at}
+use Rattle.uw_base.specs.VariableSpans.{AreSpansWithin, IsSpanWithin, pair_at, pairs_at}
 
 -- ---- bytes behind the buffer
 
@@ -15,27 +15,27 @@ range_kept bytes more from until rises within =
     let short : until - from ≤ length (drop from bytes) = rw (length-drop from bytes) (omega arith) in
     ap (take (until - from)) (drop-append-le from bytes more (omega arith)) ∙ take-append-le (until - from) (drop from bytes) more short
 
-pair_kept : (bytes more : List ℕ) (span : Span) → IsWithin (length bytes) span → pair_at (bytes ++ more) span ≡ pair_at bytes span
+pair_kept : (bytes more : List ℕ) (span : Span) → IsSpanWithin (length bytes) span → pair_at (bytes ++ more) span ≡ pair_at bytes span
 pair_kept bytes more span within =
     rw (range_kept bytes more span.start span.middle within.0 (omega arith), range_kept bytes more span.middle span.end within.1 within.2) refl
 
-pairs_kept : (bytes more : List ℕ) (spans : List Span) → AreWithin (length bytes) spans → pairs_at (bytes ++ more) spans ≡ pairs_at bytes spans
+pairs_kept : (bytes more : List ℕ) (spans : List Span) → AreSpansWithin (length bytes) spans → pairs_at (bytes ++ more) spans ≡ pairs_at bytes spans
 pairs_kept bytes more [] within = refl
 pairs_kept bytes more (span ∷ spans) within = rw (pair_kept bytes more span within.0, pairs_kept bytes more spans within.1) refl
 
-within_more : (count more : ℕ) (spans : List Span) → count ≤ more → AreWithin count spans → AreWithin more spans
+within_more : (count more : ℕ) (spans : List Span) → count ≤ more → AreSpansWithin count spans → AreSpansWithin more spans
 within_more count more [] grows within = tt
 within_more count more (span ∷ spans) grows within = ((within.0.0, within.0.1, omega arith), within_more count more spans grows within.1)
 
-within_push : (count : ℕ) (spans : List Span) (span : Span) → AreWithin count spans → IsWithin count span → AreWithin count (spans ++ span ∷ [])
+within_push : (count : ℕ) (spans : List Span) (span : Span) → AreSpansWithin count spans → IsSpanWithin count span → AreSpansWithin count (spans ++ span ∷ [])
 within_push count [] span all here = (here, tt)
 within_push count (first ∷ spans) span all here = (all.0, within_push count spans span all.1 here)
 
 -- the variables stay where bytes are put behind the buffer, and lie within it
-pub stay_behind : (old more bytes : List ℕ) (spans now : List Span) → bytes ≡ old ++ more → now ≡ spans → AreWithin (length old) spans
-    → (pairs_at bytes now ≡ pairs_at old spans) × AreWithin (length bytes) now
+pub stay_behind : (old more bytes : List ℕ) (spans now : List Span) → bytes ≡ old ++ more → now ≡ spans → AreSpansWithin (length old) spans
+    → (pairs_at bytes now ≡ pairs_at old spans) × AreSpansWithin (length bytes) now
 stay_behind old more bytes spans now is same within =
-    let longer : AreWithin (length (old ++ more)) spans = within_more (length old) (length (old ++ more)) spans (rw (length-append old more) (omega arith)) within in
+    let longer : AreSpansWithin (length (old ++ more)) spans = within_more (length old) (length (old ++ more)) spans (rw (length-append old more) (omega arith)) within in
     (rw (is, same) (pairs_kept old more spans within), rw (is, same) longer)
 
 -- what holds anyway holds where there is an error
@@ -62,8 +62,8 @@ pair_put old key value span starts parts ends =
 
 -- a variable that is put behind the buffer is the last one
 pub put_behind : (old key middle value bytes : List ℕ) (spans now : List Span) (span : Span) → middle ≡ old ++ key → bytes ≡ middle ++ value → now ≡ spans ++ span ∷ []
-    → span.start ≡ length old → span.middle ≡ length middle → span.end ≡ length bytes → AreWithin (length old) spans
-    → (pairs_at bytes now ≡ pairs_at old spans ++ record { key = key; value = value } ∷ []) × AreWithin (length bytes) now
+    → span.start ≡ length old → span.middle ≡ length middle → span.end ≡ length bytes → AreSpansWithin (length old) spans
+    → (pairs_at bytes now ≡ pairs_at old spans ++ record { key = key; value = value } ∷ []) × AreSpansWithin (length bytes) now
 put_behind old key middle value bytes spans now span is_middle is_bytes is_now starts parts ends within =
     let all : bytes ≡ old ++ (key ++ value) = is_bytes ∙ ap (λ (front : List ℕ). front ++ value) is_middle ∙ append_assoc old key value in
     let whole : bytes ≡ (old ++ key) ++ value = is_bytes ∙ ap (λ (front : List ℕ). front ++ value) is_middle in
@@ -71,7 +71,7 @@ put_behind old key middle value bytes spans now span is_middle is_bytes is_now s
     let middle_at : span.middle ≡ length (old ++ key) = parts ∙ ap length is_middle in
     let end_at : span.end ≡ length ((old ++ key) ++ value) = ends ∙ ap length whole in
     let last : pair_at bytes span ≡ record { key = key; value = value } = rw whole (pair_put old key value span starts middle_at end_at) in
-    let here : IsWithin (length bytes) span = (rw (starts, middle_at, length-append old key) (omega arith), rw (middle_at, end_at, length-append (old ++ key) value) (omega arith), rw ends (omega arith)) in (
+    let here : IsSpanWithin (length bytes) span = (rw (starts, middle_at, length-append old key) (omega arith), rw (middle_at, end_at, length-append (old ++ key) value) (omega arith), rw ends (omega arith)) in (
       ap (pairs_at bytes) is_now ∙ map-append (pair_at bytes) spans (span ∷ []) ∙ rw (kept.0, last) refl,
       rw is_now (within_push (length bytes) spans span kept.1 here),
     )

@@ -1,4 +1,4 @@
 pub mod Numbers
 pub mod Variables
-pub mod VariableSteps
+pub mod VariableSpans
 pub mod Texts

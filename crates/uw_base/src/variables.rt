@@ -31,13 +31,13 @@ pub struct Vars {
 impl Model for Vars {
     ghost use Rattle.std.specs.Prelude.{List, length};
     ghost use Rattle.uw_base.specs.declared.variables.Pair.{Pair};
-    ghost use Rattle.uw_base.specs.VariableSteps.{AreWithin, pairs_at};
+    ghost use Rattle.uw_base.specs.VariableSpans.{AreSpansWithin, pairs_at};
 
     ghost Value = { List Pair };
 
     ghost view = { λ v. pairs_at v.bytes v.spans.items };
 
-    ghost invariant = { λ v. AreWithin (length v.bytes) v.spans.items };
+    ghost invariant = { λ v. AreSpansWithin (length v.bytes) v.spans.items };
 }
 
 impl Vars {

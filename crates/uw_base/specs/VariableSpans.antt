@@ -13,9 +13,9 @@ abbrev pub pairs_at : List ℕ → List Span → List Pair
 pairs_at bytes spans = map (pair_at bytes) spans
 
 -- the span lies within so many bytes
-abbrev pub IsWithin : ℕ → Span → Type 0
-IsWithin count span = (span.start ≤ span.middle) × (span.middle ≤ span.end) × (span.end ≤ count)
+abbrev pub IsSpanWithin : ℕ → Span → Type 0
+IsSpanWithin count span = (span.start ≤ span.middle) × (span.middle ≤ span.end) × (span.end ≤ count)
 
 -- each span lies within so many bytes
-abbrev pub AreWithin : ℕ → List Span → Type 0
-AreWithin count spans = AllByRecursion (IsWithin count) spans
+abbrev pub AreSpansWithin : ℕ → List Span → Type 0
+AreSpansWithin count spans = AllByRecursion (IsSpanWithin count) spans
