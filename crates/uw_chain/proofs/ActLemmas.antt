@@ -1,6 +1,7 @@
 -- What the actions of rules come to.
-use Rattle.std.proofs.Common.{◌≡◌, ◌↔◌, ◌≤◌, refl, sym, subst, ◌∙◌, ℕ, length, Bool, true, false, List, [], ◌∷◌, ◌++◌, Option, None, Some, IfSome, Ok, Err, inl, IsTrue, nat_le}
-use Rattle.std.specs.Prelude.{codes, ◌==◌}
+use Rattle.std.proofs.Common.{◌≡◌, ◌↔◌, ◌≤◌, refl, sym, ap, subst, ◌∙◌, ℕ, length, Bool, true, false, List, [], ◌∷◌, ◌++◌, Option, None, Some, IfSome, Ok, Err, inl, IsTrue, nat_le}
+use Rattle.std.specs.Prelude.{codes, ◌==◌, option_map, unwrap_or}
+use Rattle.std.proofs.lemmas.Option.{none-some}
 use Rattle.std.specs.List.{before_first, after_first, list_any}
 use Rattle.std.proofs.lemmas.Bool.{false≢true, leb-true, le-leb}
 use Rattle.uw_base.specs.declared.variables.Pair.{Pair}
@@ -36,11 +37,19 @@ pub ends_with_page : (status line body : List ℕ) (request headed : Request) �
 unfolding end_with_page
 ends_with_page status line body request headed unsent with_line is_line is_body = rw (unsent, is_body, with_line, is_line) refl
 
--- a redirect, from its parts
-pub is_redirected : (status place line ending : List ℕ) (text : Option (List ℕ)) (request headed : Request)
-    → text ≡ Some place → line ≡ codes "Location: " ++ place → headed ≡ with_header request line → ending ≡ status
+-- a redirect, from its header line; or the end where its text is longer than its limit
+pub is_redirected : (status line ending : List ℕ) (text : Option (List ℕ)) (request headed : Request)
+    → option_map (λ place. codes "Location: " ++ place) text ≡ Some line → headed ≡ with_header request line → ending ≡ status
     → with_filled request text (λ to. ended (redirected status to request)) ≡ ended (outcomes.Ends (endings.Break (Some ending)) headed)
-is_redirected status place line ending text request headed is_text is_line with_line is_ending = rw (is_text, is_ending, with_line, is_line) refl
+is_redirected status line ending None request headed is_line with_line is_ending = absurd (none-some line is_line)
+is_redirected status line ending (Some place) request headed is_line with_line is_ending =
+    let same : codes "Location: " ++ place ≡ line = ap (λ (text : Option (List ℕ)). unwrap_or text []) is_line in
+    rw (is_ending, with_line, same) refl
+
+pub not_redirected : (status : List ℕ) (text : Option (List ℕ)) (request : Request) → None ≡ option_map (λ place. codes "Location: " ++ place) text
+    → with_filled request text (λ to. ended (redirected status to request)) ≡ ended (outcomes.Ends endings.Failing request)
+not_redirected status None request none = refl
+not_redirected status (Some place) request none = absurd (none-some (codes "Location: " ++ place) none)
 
 -- a path without a query
 pub rewritten_plain : (place path : List ℕ) (text : Option (List ℕ)) (request : Request) (vars : List Pair)

@@ -15,7 +15,7 @@ use crate::answers::use_answer;
 use crate::asking::{ask, last_answer};
 use crate::endings::status_of_code;
 use crate::faults::ChainEnd;
-use crate::filling::text;
+use crate::filling::{Filling, text};
 use crate::outcome::{Ending, Outcome};
 use crate::request::Request;
 use crate::wanting::wanted;
@@ -29,6 +29,7 @@ use uw_rules::compiled::Action;
 use uw_subst::Template;
 
 // Ends by a redirect to a place with a status.
+#[tactic(auto, using(crate::proofs::ActLemmas::not_redirected))]
 fn redirect(
     alloc: Global,
     status: &[u8],
@@ -40,10 +41,15 @@ fn redirect(
     ensures { IfOk result (λ outcome. with_filled request (filled_within to.now request.vars captures.now moment)
         (λ place. ended (redirected status.now place request)) ≡ ended outcome) }
 {
-    let Some(place) = text(alloc, to, &request, captures, moment)? else {
+    let filling = Filling {
+        vars: &request.vars,
+        captures,
+        moment,
+    };
+    let Some(line) = filling.text_behind(alloc, b"Location: ", to)? else {
         return Ok(Outcome::Ends(Ending::Failing, request));
     };
-    request.add_header(Bytes::joined(alloc, b"Location: ", place.as_slice())?)?;
+    request.add_header(line)?;
     let status = Bytes::from_slice(alloc, status)?;
     Ok(Outcome::Ends(Ending::Break(Some(status)), request))
 }
