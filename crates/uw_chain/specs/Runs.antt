@@ -5,7 +5,7 @@ use Rattle.uw_base.specs.declared.variables.Pair.{Pair}
 use Rattle.uw_model.specs.declared.asks.Ask.{Ask}
 use Rattle.uw_model.specs.declared.asks.AskAnswer.{AskAnswer}
 use Rattle.uw_model.specs.declared.asks.Asked.{Asked}
-use Rattle.uw_model.specs.Asks.{Asking, answered, died_absent, died_whole, no_memory, IsUnanswered, Leads, Led}
+use Rattle.uw_model.specs.Asks.{Asking, answered, died_absent, died_whole, no_memory, IsUnanswered, Leads, Led, is_of_desk}
 use Rattle.uw_rules.specs.WrittenRules.{WrittenRule}
 use Rattle.uw_chain.specs.declared.faults.ChainEnd.{ChainEnd}
 use Rattle.uw_chain.specs.declared.faults.ChainEnd.TheVariants as chains
@@ -25,24 +25,29 @@ abbrev pub BreaksOff : {X : Type 0} → (List Asking → ℕ → Type 0) → Opt
 BreaksOff {X} led before now moment course asked last =
     (ask : Ask) × (more : AskAnswer → Course X) × Unfolds course asked (asking ask more) × Led led before now moment asked (last ask ∷ [])
 
--- why a course was not followed to its end, behind these asks: the worker died in the next one, whose answer nobody was told where it counts; or there was no
--- memory, for the next ask or for something else
+-- the next ask after them, in which the worker died, was one of a desk
+abbrev pub DiesIn : {X : Type 0} → (List Asking → ℕ → Type 0) → Option (List ℕ) → Option (List ℕ) → ℕ → Course X → List Asked → (Ask → Asking) → Type 0
+DiesIn {X} led before now moment course asked last =
+    (ask : Ask) × (more : AskAnswer → Course X) × Unfolds course asked (asking ask more) × Led led before now moment asked (last ask ∷ []) × (is_of_desk ask ≡ true)
+
+-- why a course was not followed to its end, behind these asks: the worker died in the next one, which a desk was asked, and whose answer nobody was told where it
+-- counts; or there was no memory, for the next ask or for something else
 abbrev pub Stops : {X : Type 0} → (List Asking → ℕ → Type 0) → Option (List ℕ) → Option (List ℕ) → ℕ → Course X → List Asked → ChainEnd → Type 0
 Stops led before now moment course asked (chains.Died true) =
-    IsSpent now × ((answer : AskAnswer) × BreaksOff led before now moment course asked (λ ask. record { moment = moment; ask = ask; end = died_whole answer }))
+    IsSpent now × ((answer : AskAnswer) × DiesIn led before now moment course asked (λ ask. record { moment = moment; ask = ask; end = died_whole answer }))
 Stops led before now moment course asked (chains.Died false) =
-    IsSpent now × BreaksOff led before now moment course asked (λ ask. record { moment = moment; ask = ask; end = died_absent })
+    IsSpent now × DiesIn led before now moment course asked (λ ask. record { moment = moment; ask = ask; end = died_absent })
 Stops {X} led before now moment course asked chains.Memory =
     ((rest : Course X) × Unfolds course asked rest × Led led before now moment asked [])
     ⊎ BreaksOff led before now moment course asked (λ ask. record { moment = moment; ask = ask; end = no_memory })
 
--- an ask was answered, and stands with its answer at the end of a list; or why it was not
+-- an ask was answered, and stands with its answer at the end of a list; or why it was not: a death is one of a desk's ask
 abbrev pub AsksOnce : {T : Type 0} → (List Asking → ℕ → Type 0) → Option (List ℕ) → Option (List ℕ) → ℕ → Ask → List Asked → List Asked → Result T ChainEnd → Type 0
 AsksOnce led before now moment ask list after (Ok done) =
     (answer : AskAnswer) × (after ≡ list ++ record { ask = ask; answer = answer } ∷ []) × Leads led before now moment ask (answered answer)
 AsksOnce led before now moment ask list after (Err (chains.Died true)) =
-    (after ≡ list) × IsSpent now × ((answer : AskAnswer) × Leads led before now moment ask (died_whole answer))
-AsksOnce led before now moment ask list after (Err (chains.Died false)) = (after ≡ list) × IsSpent now × Leads led before now moment ask died_absent
+    (after ≡ list) × IsSpent now × ((answer : AskAnswer) × Leads led before now moment ask (died_whole answer)) × (is_of_desk ask ≡ true)
+AsksOnce led before now moment ask list after (Err (chains.Died false)) = (after ≡ list) × IsSpent now × Leads led before now moment ask died_absent × (is_of_desk ask ≡ true)
 AsksOnce led before now moment ask list after (Err chains.Memory) = (after ≡ list) × IsUnanswered led before now moment ask
 
 -- the worker died

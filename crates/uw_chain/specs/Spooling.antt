@@ -82,11 +82,13 @@ abbrev pub failed_tasks : List Asking → ℕ
 failed_tasks [] = 0
 failed_tasks (a ∷ asked) = failed_once (counted_answer a.end) + failed_tasks asked
 
--- tasks led a keeper on: its rows, where it tells them; at most as many failed as its count of failed appends rose by, unless that count stands at its last value
+-- tasks led a keeper on: its rows, where it tells them; at most as many failed as its count of failed appends rose by, unless that count stands at its last value,
+-- and where none failed it did not rise
 pub record Keeps (before now : Keeping) (asked : List Asking) : Type 0 where
   pub rows : LeadsTold before.rows asked now.rows
   pub failed : min (before.append_faults + failed_tasks asked) (2 ^ 64 - 1) ≤ now.append_faults
   pub later : before.append_faults ≤ now.append_faults
+  pub same : failed_tasks asked ≡ 0 → now.append_faults ≡ before.append_faults
   pub others : now.other_faults ≡ before.other_faults
 
 -- tasks led a keeper from one state to another: `rows`, `appends` and `others` read a state

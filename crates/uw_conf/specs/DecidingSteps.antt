@@ -1,5 +1,5 @@
 -- The last step of a reading: the least of what the walk and the two tables of rules refuse.
-use Rattle.std.specs.Prelude.{◌≡◌, ◌⊎◌, ℕ, List, Option, None, Some, Result, Ok, Err}
+use Rattle.std.specs.Prelude.{◌≡◌, ◌⊎◌, ℕ, ◌≤◌, List, Option, None, Some, Result, Ok, Err}
 use Rattle.uw_outside.specs.Faults.{Rose}
 use Rattle.uw_rules.specs.declared.compiled.RuleTable.{RuleTable}
 use Rattle.uw_rules.specs.declared.kinds.RuleKind.{RuleKind}
@@ -16,15 +16,15 @@ use Rattle.uw_conf.specs.declared.reading.Walk.{Walk}
 use Rattle.uw_conf.specs.Configuration.{lesser_fault, said_by}
 use Rattle.uw_conf.specs.Given.{HasRulesOf, IsPatternRefused, options_in}
 
--- a reading of lines is what they say, with their rules; or the least refused line; or a rule's line whose pattern was refused and counted, and before which none is refused
+-- a reading of lines is what they say, with their rules, and no pattern was refused; or the least refused line; or a rule's line whose pattern was refused and counted, and before which none is refused
 abbrev pub ReadsLines : List (List ℕ) → ℕ → ℕ → Result Conf ConfError → Type 0
-ReadsLines lines before after (Ok conf) = (said_by lines ≡ Ok (options_in conf)) × HasRulesOf lines conf
-ReadsLines lines before after (Err (errors.Refused fault)) = (said_by lines ≡ Err fault) ⊎ (IsPatternRefused lines fault × Rose before after)
-ReadsLines lines before after (Err errors.Memory) = Unit {0}
+ReadsLines lines before after (Ok conf) = (said_by lines ≡ Ok (options_in conf)) × HasRulesOf lines conf × (after ≡ before)
+ReadsLines lines before after (Err (errors.Refused fault)) = ((said_by lines ≡ Err fault) × (before ≤ after)) ⊎ (IsPatternRefused lines fault × Rose before after)
+ReadsLines lines before after (Err errors.Memory) = before ≤ after
 
--- a table was read; or its first refused line was found; or there was no memory
+-- a table was read, and no pattern was refused; or its first refused line was found; or there was no memory
 abbrev pub ReadsTable : SiteNames → List RuleLine → ℕ → ℕ → Result (Result RuleTable ConfFault) Memory → Type 0
-ReadsTable names rules before after (Ok (Ok table)) = ReadsRules names rules before after (Ok table)
+ReadsTable names rules before after (Ok (Ok table)) = ReadsRules names rules before after (Ok table) × (after ≡ before)
 ReadsTable names rules before after (Ok (Err fault)) = (kind : RuleKind) × (fault.kind ≡ kinds.Rule kind) × IsFirstRefused names rules before after fault.line kind
 ReadsTable names rules before after (Err memory) = Unit {0}
 

@@ -1,5 +1,5 @@
 -- What the calls of a keeper answer and leave, by its rows where it tells them ("Spooler"). A fault of the keeper comes before any other answer.
-use Rattle.std.specs.Prelude.{◌≡◌, ℕ, ◌+◌, ◌-◌, ◌^◌, ◌<◌, Bool, true, false, List, [], ◌∷◌, ◌++◌, Option, None, Some, IfSome, Result, Ok, Err}
+use Rattle.std.specs.Prelude.{◌≡◌, ℕ, ◌+◌, ◌-◌, ◌^◌, ◌<◌, ◌≤◌, Bool, true, false, List, [], ◌∷◌, ◌++◌, Option, None, Some, IfSome, Result, Ok, Err}
 use Rattle.uw_keeper.specs.declared.keeper.Row.{Row}
 use Rattle.uw_keeper.specs.declared.keeper.KeepFault.{KeepFault}
 use Rattle.uw_keeper.specs.declared.keeper.KeepFault.TheVariants as faults
@@ -25,9 +25,9 @@ TellsLast told (Err faults.NoNumber) = ⊥
 TellsLast told (Err faults.KeeperFault) = Unit {0}
 TellsLast told (Err faults.Memory) = Unit {0}
 
--- a row was put behind the last one, with the number after that of the last one; or the last one has the last number; or nothing was kept
+-- a row was put behind the last one, with the number after that of the last one, which is 1 or more; or the last one has the last number; or nothing was kept
 abbrev pub Appends : Option (List Row) → Option (List Row) → List ℕ → Result ℕ KeepFault → Type 0
-Appends None now bytes (Ok number) = now ≡ None
+Appends None now bytes (Ok number) = (now ≡ None) × (1 ≤ number)
 Appends (Some rows) now bytes (Ok number) =
     (last_number rows < most_number) × (number ≡ last_number rows + 1) × (now ≡ Some (rows ++ record { number = number; bytes = bytes } ∷ []))
 Appends told now bytes (Err (faults.Absent number)) = ⊥

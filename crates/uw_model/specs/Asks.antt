@@ -74,6 +74,10 @@ IsOfPart parts (asks.Spool vars body) = ⊥
 abbrev pub Led : (List Asking → ℕ → Type 0) → Option (List ℕ) → Option (List ℕ) → ℕ → List Asked → List Asking → Type 0
 Led led before now moment asked others = (writes : ℕ) × led (answered_at moment asked ++ others) writes × Spends before now writes
 
+-- nothing was asked, and no word was written
+abbrev pub AsksNothing : (List Asking → ℕ → Type 0) → Option (List ℕ) → Option (List ℕ) → Type 0
+AsksNothing led before now = led [] 0 × Spends before now 0
+
 -- no ask was made, or one that found no memory
 abbrev pub IsUnanswered : (List Asking → ℕ → Type 0) → Option (List ℕ) → Option (List ℕ) → ℕ → Ask → Type 0
 IsUnanswered led before now moment ask = Led led before now moment [] [] ⊎ Leads led before now moment ask no_memory

@@ -48,9 +48,7 @@ names_of options = map (λ cache. cache.name) options.caches
 -- a configuration whose compiled rules are those of a site
 pub record IsSiteOf (conf : Conf) (site : Site) : Type 0 where
   pub options : options_in conf ≡ site.options
-  pub names : site.naming.names ≡ names_of site.options
   pub rules : AreRulesOf site.naming.names site.naming.labels (rules_of conf.routes) site.rules
-  pub task_names : site.task_naming.names ≡ names_of site.options
   pub task_rules : AreRulesOf site.task_naming.names site.task_naming.labels (rules_of conf.tasks) site.task_rules
 
 -- a desk has at least as many caches and areas as a configuration

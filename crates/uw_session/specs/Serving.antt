@@ -6,7 +6,7 @@ use Rattle.uw_packet.specs.declared.packet.Header.{Header}
 use Rattle.uw_packet.specs.Packet.{header_bytes}
 use Rattle.uw_packet.specs.Reads.{IsOver}
 use Rattle.uw_model.specs.declared.asks.Asked.{Asked}
-use Rattle.uw_model.specs.Asks.{Asking, Led}
+use Rattle.uw_model.specs.Asks.{AsksNothing, Asking}
 use Rattle.uw_chain.specs.declared.faults.ChainEnd.{ChainEnd}
 use Rattle.uw_chain.specs.declared.faults.ChainEnd.TheVariants as chains
 use Rattle.uw_chain.specs.Runs.{Follows, Stops}
@@ -90,8 +90,8 @@ pub record Flow : Type 1 where
   pub now : Option (List ℕ)
 
 -- nothing was asked, and no word written
-abbrev pub IsSilent : Flow → ℕ → Type 0
-IsSilent f moment = Led f.led f.before f.now moment [] []
+abbrev pub IsSilent : Flow → Type 0
+IsSilent f = AsksNothing f.led f.before f.now
 
 -- a whole packet was taken, at this moment
 abbrev pub TakesWhole : Options → ℕ → Flow → Exchange → Type 0
@@ -99,7 +99,7 @@ TakesWhole options moment f x = (x.moment ≡ moment) × IsAccepted options x ×
 
 -- a packet was refused
 abbrev pub Refuses : Options → ℕ → Flow → Refusal → Type 0
-Refuses options moment f refusal = IsSilent f moment × ((bytes : List ℕ) × Takes f.src.before f.src.now bytes × IsRefused options bytes refusal)
+Refuses options moment f refusal = IsSilent f × ((bytes : List ℕ) × Takes f.src.before f.src.now bytes × IsRefused options bytes refusal)
 
 -- the asks of a packet that was taken whole were not followed to their end
 abbrev pub Breaks : Site → ℕ → Flow → List Asked → ChainEnd → Type 0
@@ -107,19 +107,19 @@ Breaks site moment f done end = (x : Exchange) × TakesWhole site.options moment
 
 -- why a request was not served, but for a failed write: nothing was written
 abbrev pub NotServed : Site → ℕ → Flow → ServeFault → Type 0
-NotServed site moment f serves.Nothing = IsSilent f moment × Takes f.src.before f.src.now [] × IsOver f.src
+NotServed site moment f serves.Nothing = IsSilent f × Takes f.src.before f.src.now [] × IsOver f.src
 NotServed site moment f (serves.Truncated got want) =
-    IsSilent f moment × IsOver f.src × ((bytes : List ℕ) × Takes f.src.before f.src.now bytes × IsTruncated site.options bytes got want)
+    IsSilent f × IsOver f.src × ((bytes : List ℕ) × Takes f.src.before f.src.now bytes × IsTruncated site.options bytes got want)
 NotServed site moment f (serves.TooBig size limit) = Refuses site.options moment f (refusals.TooBig size limit)
 NotServed site moment f (serves.NoModifier m1 m2) = Refuses site.options moment f (refusals.NoModifier m1 m2)
 NotServed site moment f (serves.BadBlock at) = Refuses site.options moment f (refusals.BadBlock at)
 NotServed site moment f serves.BadLength = Refuses site.options moment f refusals.BadLength
 NotServed site moment f serves.ReadFault =
-    IsSilent f moment × Rose f.src.faults_before f.src.faults_now × ((bytes : List ℕ) × Takes f.src.before f.src.now bytes × IsBegun site.options bytes)
+    IsSilent f × Rose f.src.faults_before f.src.faults_now × ((bytes : List ℕ) × Takes f.src.before f.src.now bytes × IsBegun site.options bytes)
 NotServed site moment f (serves.Died whole done) = Breaks site moment f done (chains.Died whole)
 NotServed site moment f (serves.WriteFault done) = ⊥
 NotServed site moment f (serves.Memory done) =
-    ((done ≡ []) × IsSilent f moment × ((bytes : List ℕ) × Takes f.src.before f.src.now bytes × IsSwallowed site.options bytes))
+    ((done ≡ []) × IsSilent f × ((bytes : List ℕ) × Takes f.src.before f.src.now bytes × IsSwallowed site.options bytes))
     ⊎ Breaks site moment f done chains.Memory
 
 -- the packet that was served, with the body behind it
@@ -163,14 +163,16 @@ has_died_serving (Err fault) = is_death_of_worker fault
 -- ---- between reading and writing
 
 -- what answering a packet did whose header is accepted: its asks were followed to its reply, or not to their end; or its block is out of its grammar, and nothing was
--- asked
+-- asked; or there was no memory before the first ask
 abbrev pub AnswersPacket : (List Asking → ℕ → Type 0) → Option (List ℕ) → Option (List ℕ) → Site → ℕ → Header → List ℕ → Result Answered ServeFault → Type 0
 AnswersPacket led before now site moment head block (Ok answered) =
     (broken_at site.options head block ≡ None) × Follows led before now moment (course_of_packet site moment head block) answered.asks answered.reply
-AnswersPacket led before now site moment head block (Err (serves.BadBlock at)) = (broken_at site.options head block ≡ Some at) × Led led before now moment [] []
+AnswersPacket led before now site moment head block (Err (serves.BadBlock at)) = (broken_at site.options head block ≡ Some at) × AsksNothing led before now
 AnswersPacket led before now site moment head block (Err (serves.Died whole done)) =
     (broken_at site.options head block ≡ None) × Stops led before now moment (course_of_packet site moment head block) done (chains.Died whole)
-AnswersPacket led before now site moment head block (Err (serves.Memory done)) = Stops led before now moment (course_of_packet site moment head block) done chains.Memory
+AnswersPacket led before now site moment head block (Err (serves.Memory done)) =
+    ((done ≡ []) × AsksNothing led before now)
+    ⊎ ((broken_at site.options head block ≡ None) × Stops led before now moment (course_of_packet site moment head block) done chains.Memory)
 AnswersPacket led before now site moment head block (Err _) = ⊥
 
 -- the worker died in answering

@@ -69,6 +69,7 @@ abbrev pub StopsTask : {S : Type 0} → TaskRules → ℕ → RoundFlow S → Op
 StopsTask rules now f vars end =
     (pairs : List Pair) × (asked : List Asked) × (vars ≡ Some pairs)
     × Stops (both_led (f.leads f.before f.now) (Keeps f.kept f.left)) f.allowed f.still now (course_of_task rules.naming rules.rules now pairs) asked end
+    × (is_later now pairs ≡ false)
 
 -- what came of a row with these variables; or why its task was not run to its end
 abbrev pub MakesOutcome : {S : Type 0} → TaskRules → ℕ → RoundFlow S → Option (List Pair) → Result Outcome ChainEnd → Type 0

@@ -127,6 +127,11 @@ pub record Failed (before now : Keeping) : Type 0 where
   pub appends : now.append_faults ≡ before.append_faults
   pub others : Rose before.other_faults now.other_faults
 
+-- a row of the spooler, behind those of a report
+pub record IsNextRow (round : Round) (report : List TaskLine) (row : Row) : Type 0 where
+  pub own : row.number % round.spoolers ≡ round.spooler
+  pub behind : IsStrictlyIncreasing (map (λ (line : TaskLine). line.number) report ++ row.number ∷ [])
+
 -- behind the turns of a report, the keeper failed: before another task ran; or when the row of one that was done was to be removed
 abbrev pub FailsBehind : {S : Type 0} → Round → RoundFlow S → List TaskLine → Type 0
 FailsBehind {S} round f report =
@@ -135,14 +140,15 @@ FailsBehind {S} round f report =
     × HasTurns round f report (row ∷ more) state kept allowed
     × IsOutcomeOf round.rules round.now (row_vars row.bytes) asked outcome × (is_done outcome ≡ true)
     × f.leads state f.now (of_desk (answered_at round.now asked)) writes × Spends allowed f.still writes
-    × Keeps kept put (of_spool (answered_at round.now asked)) × Failed put f.left)
+    × Keeps kept put (of_spool (answered_at round.now asked)) × Failed put f.left × IsNextRow round report row)
 
--- behind the turns of a report, the task of the next row was begun, and stopped behind these asks
+-- behind the turns of a report, the task of the next row, which was due, was begun, and stopped behind these asks
 abbrev pub StopsBehind : {S : Type 0} → Round → RoundFlow S → List TaskLine → ChainEnd → Type 0
 StopsBehind {S} round f report end =
     (row : Row) × (vars : List Pair) × (more : List Row) × (state : S) × (kept : Keeping) × (allowed : Option (List ℕ)) × (asked : List Asked)
     × HasTurns round f report (row ∷ more) state kept allowed × (row_vars row.bytes ≡ Some vars)
     × Stops (both_led (f.leads state f.now) (Keeps kept f.left)) allowed f.still round.now (course_of_task round.rules.naming round.rules.rules round.now vars) asked end
+    × (is_later round.now vars ≡ false) × IsNextRow round report row
 
 -- what a round did, by its answer: all its rows had their turns; or why not
 abbrev pub Rounds : {S : Type 0} → Round → RoundFlow S → Result (List TaskLine) RoundFault → Type 0

@@ -7,10 +7,12 @@ use Rattle.uw_outside.specs.Streams.{Inflow, Outflow, Takes, Gives}
 use Rattle.uw_packet.specs.Reads.{IsOver}
 use Rattle.uw_model.specs.declared.asks.AskAnswer.{AskAnswer}
 use Rattle.uw_model.specs.declared.asks.Asked.{Asked}
-use Rattle.uw_model.specs.Asks.{AskEnd, Asking, answered, died_absent, died_whole, no_memory, answered_at}
+use Rattle.uw_model.specs.Asks.{AskEnd, Asking, AsksNothing, answered, died_absent, died_whole, no_memory, answered_at, is_of_desk}
 use Rattle.uw_keeper.specs.Keeping.{Keeping}
 use Rattle.uw_model.specs.Lists.{Lists, LeadsLists, empty_lists}
 use Rattle.uw_chain.specs.Courses.{Course, Unfolds, asking, ended}
+use Rattle.uw_chain.specs.declared.faults.ChainEnd.TheVariants as chains
+use Rattle.uw_chain.specs.Runs.{Stops}
 use Rattle.uw_chain.specs.Spooling.{Keeps, both_led}
 use Rattle.uw_ends.specs.declared.ends.Brief.{Brief}
 use Rattle.uw_ends.specs.declared.ends.RunFault.{RunFault}
@@ -71,11 +73,11 @@ abbrev pub frame_of_end : TurnEnd → List ℕ
 frame_of_end (replied_by reply) = frame reply
 frame_of_end (died_in ask) = 255 ∷ 255 ∷ 255 ∷ 255 ∷ death_byte (is_whole_death ask.end) ∷ []
 
--- behind these asks of a course stands the end of a turn: its reply; or the next ask, in which the worker died
+-- behind these asks of a course stands the end of a turn: its reply; or the next ask, which is one of a desk, and in which the worker died
 abbrev pub EndsCourse : Course (List ℕ) → ℕ → List Asked → TurnEnd → Type 0
 EndsCourse course moment asked (replied_by reply) = Unfolds course asked (ended reply)
 EndsCourse course moment asked (died_in ask) =
-    (ask.moment ≡ moment) × IsSome (is_whole_death ask.end) × ((more : AskAnswer → Course (List ℕ)) × Unfolds course asked (asking ask.ask more))
+    (ask.moment ≡ moment) × IsSome (is_whole_death ask.end) × (is_of_desk ask.ask ≡ true) × ((more : AskAnswer → Course (List ℕ)) × Unfolds course asked (asking ask.ask more))
 
 -- a turn of a site: its packet is whole, and its asks are the next ones of the packet, each after the answers before it, up to its end
 pub record IsTurn (site : Site) (t : Turn) : Type 0 where
@@ -140,6 +142,9 @@ pub record Ending : Type 0 where
   -- the source and the sink in this run
   pub src : Inflow
   pub snk : Outflow
+  -- what the worker's life allowed behind the turns, and at the end
+  pub allowed : Option (List ℕ)
+  pub still : Option (List ℕ)
   -- how many packets were served
   pub count : ℕ
   -- what was read behind them, what was written behind their frames, and the moments given behind theirs
@@ -155,29 +160,40 @@ IsBelowMost e = (e.count < most_packets) × (length e.late ≡ 1) × (e.part ≡
 abbrev pub IsAtMost : Ending → Type 0
 IsAtMost e = (e.count ≡ most_packets) × (e.late ≡ []) × (e.part ≡ [])
 
+-- nothing was asked behind the turns, and no word was written
+abbrev pub HasAskedNothing : (List Asking → ℕ → Type 0) → Ending → Type 0
+HasAskedNothing led e = AsksNothing led e.allowed e.still
+
 -- a packet was served in its turn, and only a part of its frame could be written; its asks led on from the last state of the desk
 pub record IsCutTurn (led : List Asking → ℕ → Type 0) (site : Site) (e : Ending) : Type 0 where
   pub turn : Turn
   pub is : IsTurn site turn
   pub asks : led (asks_of_turn turn) turn.writes
+  pub allows : LeavesAllowed turn.end e.allowed turn.writes e.still
   pub moment : e.late ≡ turn.packet.moment ∷ []
   pub read : e.rest ≡ exchange_bytes turn.packet
   pub written : (n : ℕ) × (n < length (frame_of_end turn.end)) × (e.part ≡ take n (frame_of_end turn.end))
 
--- want of memory takes no more than one packet with it
-abbrev pub TakesOnePacket : Options → List ℕ → Type 0
-TakesOnePacket options bytes = IsSwallowed options bytes ⊎ ((x : Exchange) × IsAccepted options x × (bytes ≡ exchange_bytes x))
+-- a packet was taken whole at the moment that the clock gave last, and behind the asks of it that were answered there was no memory
+pub record IsStopped (led : List Asking → ℕ → Type 0) (site : Site) (e : Ending) : Type 0 where
+  pub packet : Exchange
+  pub is : IsAccepted site.options packet
+  pub moment : e.late ≡ packet.moment ∷ []
+  pub read : e.rest ≡ exchange_bytes packet
+  pub asked : List Asked
+  pub stops : Stops led e.allowed e.still packet.moment (course_of_site site packet) asked chains.Memory
 
 -- why a run ended, where `led` says which asks lead on from the last state of the desk
 abbrev pub EndsBy : (List Asking → ℕ → Type 0) → Site → Ending → Option RunFault → Type 0
-EndsBy led site e None = (e.rest ≡ []) × IsOver e.src × (IsBelowMost e ⊎ IsAtMost e)
+EndsBy led site e None = (e.rest ≡ []) × IsOver e.src × (IsBelowMost e ⊎ IsAtMost e) × HasAskedNothing led e
 EndsBy led site e (Some faults.ReadFault) =
-    Rose e.src.faults_before e.src.faults_now × ((IsBelowMost e × IsBegun site.options e.rest) ⊎ (IsAtMost e × (e.rest ≡ [])))
+    Rose e.src.faults_before e.src.faults_now × ((IsBelowMost e × IsBegun site.options e.rest) ⊎ (IsAtMost e × (e.rest ≡ []))) × HasAskedNothing led e
 EndsBy led site e (Some faults.WriteFault) = Rose e.snk.faults_before e.snk.faults_now × (e.count < most_packets) × IsCutTurn led site e
-EndsBy led site e (Some (faults.Truncated got want)) = IsTruncated site.options e.rest got want × IsOver e.src × IsBelowMost e
-EndsBy led site e (Some (faults.BadPacket packet)) = ((refusal : Refusal) × (packet ≡ bad_packet_of refusal) × IsRefused site.options e.rest refusal) × IsBelowMost e
-EndsBy led site e (Some faults.Memory) = TakesOnePacket site.options e.rest × (e.part ≡ []) × (length e.late ≤ 1)
-EndsBy led site e (Some faults.TooMany) = (length e.rest ≡ 1) × IsAtMost e
+EndsBy led site e (Some (faults.Truncated got want)) = IsTruncated site.options e.rest got want × IsOver e.src × IsBelowMost e × HasAskedNothing led e
+EndsBy led site e (Some (faults.BadPacket packet)) =
+    ((refusal : Refusal) × (packet ≡ bad_packet_of refusal) × IsRefused site.options e.rest refusal) × IsBelowMost e × HasAskedNothing led e
+EndsBy led site e (Some faults.Memory) = ((IsSwallowed site.options e.rest × HasAskedNothing led e) ⊎ IsStopped led site e) × (e.part ≡ []) × (length e.late ≤ 1)
+EndsBy led site e (Some faults.TooMany) = (length e.rest ≡ 1) × IsAtMost e × HasAskedNothing led e
 EndsBy led site e (Some _) = ⊥
 
 -- what a run took from its source, wrote into its sink and was told by its clock, and how it ended, where `leads` says which asks lead from which state of the desk
@@ -188,6 +204,8 @@ pub record PipeRun {S : Type 0} (leads : S → S → List Asking → ℕ → Typ
   pub turns : List Turn
   pub behind : S
   pub left : Option (List ℕ)
+  -- what the worker's life allows at the end
+  pub still : Option (List ℕ)
   pub rest : List ℕ
   pub part : List ℕ
   pub late : List ℕ
@@ -197,4 +215,4 @@ pub record PipeRun {S : Type 0} (leads : S → S → List Asking → ℕ → Typ
   pub written : Gives snk.before snk.now (frames_of turns ++ part)
   pub moments : gave (moments_of turns ++ late)
   pub briefs : told ≡ map brief_of turns
-  pub ending : EndsBy (leads behind last) site (record { src = src; snk = snk; count = length turns; rest = rest; part = part; late = late }) fault
+  pub ending : EndsBy (leads behind last) site (record { src = src; snk = snk; allowed = left; still = still; count = length turns; rest = rest; part = part; late = late }) fault

@@ -27,14 +27,14 @@ fault_of_serving (serves.WriteFault done) = Some faults.WriteFault
 fault_of_serving (serves.Memory done) = Some faults.Memory
 
 -- a turn that was the last: what it took, wrote and was told, and why
-pub record Stops (led : List Asking → ℕ → Type 0) (site : Site) (src : Inflow) (snk : Outflow) (gave : List ℕ → Type 0) (fault : Option RunFault) : Type 0 where
+pub record IsLast (led : List Asking → ℕ → Type 0) (site : Site) (src : Inflow) (snk : Outflow) (gave : List ℕ → Type 0) (fault : Option RunFault) : Type 0 where
   pub moment : ℕ
   pub rest : List ℕ
   pub part : List ℕ
   pub read : Takes src.before src.now rest
   pub written : Gives snk.before snk.now part
   pub moments : gave (moment ∷ [])
-  pub ending : EndsBy led site (record { src = src; snk = snk; count = 0; rest = rest; part = part; late = moment ∷ [] }) fault
+  pub ending : EndsBy led site (record { src = src; snk = snk; allowed = unbounded; still = unbounded; count = 0; rest = rest; part = part; late = moment ∷ [] }) fault
 
 -- a turn that served a packet
 pub record Goes (led : List Asking → ℕ → Type 0) (site : Site) (told told_now : List Brief) (src : Inflow) (snk : Outflow) (gave : List ℕ → Type 0) : Type 0 where
@@ -50,8 +50,8 @@ pub record Goes (led : List Asking → ℕ → Type 0) (site : Site) (told told_
 -- a turn served a packet, or found the source at its end, or was the last by a fault
 abbrev pub Turns : (List Asking → ℕ → Type 0) → Site → List Brief → List Brief → Inflow → Outflow → (List ℕ → Type 0) → Result Bool RunFault → Type 0
 Turns led site told told_now src snk gave (Ok true) = Goes led site told told_now src snk gave
-Turns led site told told_now src snk gave (Ok false) = (told_now ≡ told) × Stops led site src snk gave None
-Turns led site told told_now src snk gave (Err fault) = (told_now ≡ told) × Stops led site src snk gave (Some fault)
+Turns led site told told_now src snk gave (Ok false) = (told_now ≡ told) × IsLast led site src snk gave None
+Turns led site told told_now src snk gave (Err fault) = (told_now ≡ told) × IsLast led site src snk gave (Some fault)
 
 -- the packets served so far: what was taken, written and told for them, and the state of the desk after them
 pub record SoFar {S : Type 0} (leads : S → S → List Asking → ℕ → Type 0) (start : S) (site : Site) (held : S) (told : List Brief)

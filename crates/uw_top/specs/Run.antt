@@ -51,12 +51,13 @@ pub record ReadsText (r : Inflow) (text : List ℕ) : Type 0 where
   pub few : length text ≤ most_text_bytes + 1
   pub whole : length text ≤ most_text_bytes → IsOver r
 
--- why a command did not begin: its configuration is refused, or could not be read, or there was no memory
-abbrev pub IsNotBegun : (List ℕ → Result Conf ConfFault → Type 0) → Inflow → Option RunFault → Type 0
-IsNotBegun said r (Some (faults.Conf fault)) = (text : List ℕ) × ReadsText r text × said text (Err fault)
-IsNotBegun said r (Some faults.ReadFault) = Rose r.faults_before r.faults_now × ((text : List ℕ) × Takes r.before r.now text × (length text ≤ most_text_bytes))
-IsNotBegun said r (Some faults.Memory) = (text : List ℕ) × Takes r.before r.now text × (length text ≤ most_text_bytes + 1)
-IsNotBegun said r _ = ⊥
+-- why a command did not begin: its configuration is refused, or could not be read, or there was no memory; the maker of patterns had these counts of faults before and after
+abbrev pub IsNotBegun : (before after : ℕ) → (ℕ → ℕ → List ℕ → Result Conf ConfFault → Type 0) → Inflow → Option RunFault → Type 0
+IsNotBegun before after said r (Some (faults.Conf fault)) = (text : List ℕ) × ReadsText r text × said before after text (Err fault)
+IsNotBegun before after said r (Some faults.ReadFault) =
+    Rose r.faults_before r.faults_now × ((text : List ℕ) × Takes r.before r.now text × (length text ≤ most_text_bytes)) × (after ≡ before)
+IsNotBegun before after said r (Some faults.Memory) = ((text : List ℕ) × Takes r.before r.now text × (length text ≤ most_text_bytes + 1)) × (before ≤ after)
+IsNotBegun before after said r _ = ⊥
 
 -- how the rules of a table of lines are meant: with the names of the caches, and the places of the table's labels
 abbrev pub naming_in : Table → List (List ℕ) → Naming
@@ -72,8 +73,9 @@ site_of text options = record {
   task_rules = table_of (rule_lines_of tables.Tasks (lines text));
 }
 
--- a command over the configuration that a text says, of whose run this holds; or it did not begin, and left all else as it was
-abbrev pub Runs : (List ℕ → Result Conf ConfFault → Type 0) → Inflow → Type 0 → Option RunFault → (Site → Type 0) → Type 0
-Runs said r untouched fault Ran =
-    ((text : List ℕ) × (conf : Conf) × ReadsText r text × said text (Ok conf) × Ran (site_of text (options_in conf)))
-    ⊎ (IsNotBegun said r fault × untouched)
+-- a command over the configuration that a text says, of whose run this holds; or it did not begin, and left all else as it was; the maker of patterns had these counts of
+-- faults before and after
+abbrev pub Runs : (before after : ℕ) → (ℕ → ℕ → List ℕ → Result Conf ConfFault → Type 0) → Inflow → Type 0 → Option RunFault → (Site → Type 0) → Type 0
+Runs before after said r untouched fault Ran =
+    ((text : List ℕ) × (conf : Conf) × ReadsText r text × said before after text (Ok conf) × Ran (site_of text (options_in conf)))
+    ⊎ (IsNotBegun before after said r fault × untouched)

@@ -23,7 +23,7 @@ pub fn configuration<F: Source, M: Patterns>(
     conf: &mut F,
     make: &mut M,
 ) -> Result<Conf, RunFault>
-    ensures gives { GivesConf (IsSaid (M.faults make.old) (M.faults make.new)) (inflow F.left F.ended F.faults conf.old conf.new) result }
+    ensures gives { GivesConf (M.faults make.old) (M.faults make.new) IsSaid (inflow F.left F.ended F.faults conf.old conf.new) result }
     ensures caches { IfOk result (λ c. ArePartsOfSite c.caches c.areas) }
     ensures routes { IfOk result (λ c. AskPartsBelow (parts_in c) (rules_of c.routes)) }
     ensures tasks { IfOk result (λ c. AskPartsBelow (parts_in c) (rules_of c.tasks)) }
@@ -42,7 +42,7 @@ fn read_into<F: Source, M: Patterns>(
     make: &mut M,
 ) -> Result<Conf, RunFault>
     requires { length text.old ≡ 1048577 }
-    ensures gives { GivesConf (IsSaid (M.faults make.old) (M.faults make.new)) (inflow F.left F.ended F.faults conf.old conf.new) result }
+    ensures gives { GivesConf (M.faults make.old) (M.faults make.new) IsSaid (inflow F.left F.ended F.faults conf.old conf.new) result }
     ensures caches { IfOk result (λ c. ArePartsOfSite c.caches c.areas) }
     ensures routes { IfOk result (λ c. AskPartsBelow (parts_in c) (rules_of c.routes)) }
     ensures tasks { IfOk result (λ c. AskPartsBelow (parts_in c) (rules_of c.tasks)) }
@@ -57,7 +57,7 @@ fn read_into<F: Source, M: Patterns>(
 // What a text says.
 fn said<M: Patterns>(alloc: Global, text: &[u8], make: &mut M) -> Result<Conf, RunFault>
     requires { length text.now < 2 ^ 32 }
-    ensures says { Says (IsSaid (M.faults make.old) (M.faults make.new) text.now) result }
+    ensures says { Says (M.faults make.old) (M.faults make.new) (λ before after. IsSaid before after text.now) result }
     ensures caches { IfOk result (λ c. ArePartsOfSite c.caches c.areas) }
     ensures routes { IfOk result (λ c. AskPartsBelow (parts_in c) (rules_of c.routes)) }
     ensures tasks { IfOk result (λ c. AskPartsBelow (parts_in c) (rules_of c.tasks)) }
@@ -75,7 +75,7 @@ pub fn configuration_with_a_cache<F: Source, M: Patterns>(
     conf: &mut F,
     make: &mut M,
 ) -> Result<Conf, RunFault>
-    ensures gives { GivesConf (IsSaidWithACache (M.faults make.old) (M.faults make.new)) (inflow F.left F.ended F.faults conf.old conf.new) result }
+    ensures gives { GivesConf (M.faults make.old) (M.faults make.new) IsSaidWithACache (inflow F.left F.ended F.faults conf.old conf.new) result }
     ensures caches { IfOk result (λ c. ArePartsOfSite c.caches c.areas) }
     ensures routes { IfOk result (λ c. AskPartsBelow (parts_in c) (rules_of c.routes)) }
     ensures tasks { IfOk result (λ c. AskPartsBelow (parts_in c) (rules_of c.tasks)) }
@@ -91,7 +91,7 @@ fn having_a_cache(conf: Conf) -> Result<Conf, RunFault>
     requires caches { ArePartsOfSite conf.caches conf.areas }
     requires routes { AskPartsBelow (parts_in conf) (rules_of conf.routes) }
     requires tasks { AskPartsBelow (parts_in conf) (rules_of conf.tasks) }
-    ensures gives { (before after : ℕ) (text : List ℕ) → IsSaid before after text (Ok conf) → Says (IsSaidWithACache before after text) result }
+    ensures gives { (before after : ℕ) (text : List ℕ) → IsSaid before after text (Ok conf) → Says before after (λ first last. IsSaidWithACache first last text) result }
     ensures caches { IfOk result (λ c. ArePartsOfSite c.caches c.areas) }
     ensures routes { IfOk result (λ c. AskPartsBelow (parts_in c) (rules_of c.routes)) }
     ensures tasks { IfOk result (λ c. AskPartsBelow (parts_in c) (rules_of c.tasks)) }

@@ -53,20 +53,20 @@ pub fn run<F: Source, M: Patterns, S: Source, K: Sink, C: Clock, P: Keeper>(
         → (conf.new ≡ conf.old) × (make.new ≡ make.old) × (src.new ≡ src.old) × (snk.new ≡ snk.old) × (clock.new ≡ clock.old) × (keep.new ≡ keep.old) × (result.briefs ≡ []) }
 
     // What was read, what was written for it, and why it ended there.
-    ensures pipes { command_of (map string_bytes words.now) ≡ Some (commands.Pipe []) → Runs (IsSaid (M.faults make.old) (M.faults make.new))
+    ensures pipes { command_of (map string_bytes words.now) ≡ Some (commands.Pipe []) → Runs (M.faults make.old) (M.faults make.new) IsSaid
         (inflow F.left F.ended F.faults conf.old conf.new)
         ((src.new ≡ src.old) × (snk.new ≡ snk.old) × (clock.new ≡ clock.old) × (keep.new ≡ keep.old) × (result.briefs ≡ [])) result.fault
         (λ site. (lists : Lists) × PipeRun (both_lead list_leads) (first_lists site.options, keeping P.rows P.append_faults P.other_faults keep.old) (lists, keeping P.rows P.append_faults P.other_faults keep.new) unbounded site
         (inflow S.left S.ended S.faults src.old src.new)
         (outflow K.taken K.faults snk.old snk.new)
         (C.gave clock.old clock.new) result.briefs result.fault) }
-    ensures loads { (first count : ℕ) → command_of (map string_bytes words.now) ≡ Some (commands.Load first count) → Runs (IsSaidWithACache (M.faults make.old) (M.faults make.new))
+    ensures loads { (first count : ℕ) → command_of (map string_bytes words.now) ≡ Some (commands.Load first count) → Runs (M.faults make.old) (M.faults make.new) IsSaidWithACache
         (inflow F.left F.ended F.faults conf.old conf.new)
         ((src.new ≡ src.old) × (snk.new ≡ snk.old) × (clock.new ≡ clock.old) × (keep.new ≡ keep.old) × (result.briefs ≡ [])) result.fault
         (λ site. (src.new ≡ src.old) × (keep.new ≡ keep.old) × (result.briefs ≡ []) × LoadRun site.options first count
         (outflow K.taken K.faults snk.old snk.new)
         (C.gave clock.old clock.new) result.fault) }
-    ensures spools { command_of (map string_bytes words.now) ≡ Some commands.Spool → Runs (IsSaid (M.faults make.old) (M.faults make.new))
+    ensures spools { command_of (map string_bytes words.now) ≡ Some commands.Spool → Runs (M.faults make.old) (M.faults make.new) IsSaid
         (inflow F.left F.ended F.faults conf.old conf.new)
         ((src.new ≡ src.old) × (snk.new ≡ snk.old) × (clock.new ≡ clock.old) × (keep.new ≡ keep.old) × (result.briefs ≡ [])) result.fault
         (λ site. (src.new ≡ src.old) × (result.briefs ≡ []) × ((lists : Lists) × SpoolRun list_leads (first_lists site.options) lists (keeping P.rows P.append_faults P.other_faults keep.old) (keeping P.rows P.append_faults P.other_faults keep.new) site
@@ -107,7 +107,7 @@ fn pipe<F: Source, M: Patterns, S: Source, K: Sink, C: Clock, P: Keeper>(
     keep: &mut P,
 ) -> RunEnd
     ensures status { result.status ≡ status_of result.fault }
-    ensures pipes { Runs (IsSaid (M.faults make.old) (M.faults make.new))
+    ensures pipes { Runs (M.faults make.old) (M.faults make.new) IsSaid
         (inflow F.left F.ended F.faults conf.old conf.new)
         ((src.new ≡ src.old) × (snk.new ≡ snk.old) × (clock.new ≡ clock.old) × (keep.new ≡ keep.old) × (result.briefs ≡ [])) result.fault
         (λ site. (lists : Lists) × PipeRun (both_lead list_leads) (first_lists site.options, keeping P.rows P.append_faults P.other_faults keep.old) (lists, keeping P.rows P.append_faults P.other_faults keep.new) unbounded site
@@ -174,7 +174,7 @@ fn load_over<F: Source, M: Patterns, K: Sink, C: Clock>(
     requires { first < 2 ^ 31 }
     ensures status { result.status ≡ status_of result.fault }
     ensures briefs { result.briefs ≡ [] }
-    ensures loads { Runs (IsSaidWithACache (M.faults make.old) (M.faults make.new))
+    ensures loads { Runs (M.faults make.old) (M.faults make.new) IsSaidWithACache
         (inflow F.left F.ended F.faults conf.old conf.new)
         ((snk.new ≡ snk.old) × (clock.new ≡ clock.old)) result.fault
         (λ site. LoadRun site.options first count
@@ -201,7 +201,7 @@ fn spool_over<F: Source, M: Patterns, K: Sink, C: Clock, P: Keeper>(
 ) -> RunEnd
     ensures status { result.status ≡ status_of result.fault }
     ensures briefs { result.briefs ≡ [] }
-    ensures spools { Runs (IsSaid (M.faults make.old) (M.faults make.new))
+    ensures spools { Runs (M.faults make.old) (M.faults make.new) IsSaid
         (inflow F.left F.ended F.faults conf.old conf.new)
         ((snk.new ≡ snk.old) × (clock.new ≡ clock.old) × (keep.new ≡ keep.old)) result.fault
         (λ site. (lists : Lists) × SpoolRun list_leads (first_lists site.options) lists (keeping P.rows P.append_faults P.other_faults keep.old) (keeping P.rows P.append_faults P.other_faults keep.new) site
