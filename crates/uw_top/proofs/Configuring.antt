@@ -11,18 +11,18 @@ use Rattle.uw_conf.specs.declared.conf.ConfFault.{ConfFault}
 use Rattle.uw_conf.specs.Configuration.{most_text_bytes}
 use Rattle.uw_ends.specs.declared.ends.RunFault.{RunFault}
 use Rattle.uw_ends.specs.declared.ends.RunFault.TheVariants as faults
-use Rattle.uw_conf.proofs.RoutePartLemmas.{names_caches}
 use Rattle.uw_conf.specs.Given.{options_in}
 use Rattle.uw_session.specs.Exchange.{IsSiteOf, Site}
 use Rattle.uw_top.specs.Run.{ReadsText, IsSaid, IsSaidWithACache, Runs, site_of}
 use Rattle.uw_top.specs.RunSteps.{GivesConf, Says}
 
 -- what a text says is the configuration that is given, or the refusal
-pub conf_given : (said : List ℕ → Result Conf ConfFault → Type 0) (r : Inflow) (text : List ℕ) (result : Result Conf RunFault) → ReadsText r text → Says (said text) result → GivesConf said r result
-conf_given said r text (Ok conf) read says = (text, read, says)
-conf_given said r text (Err (faults.Conf fault)) read says = (text, read, says)
-conf_given said r text (Err faults.Memory) read says = (text, read.taken, read.few)
-conf_given said r text (Err _) read says = absurd says
+pub conf_given : (before after : ℕ) (said : ℕ → ℕ → List ℕ → Result Conf ConfFault → Type 0) (r : Inflow) (text : List ℕ) (result : Result Conf RunFault)
+    → ReadsText r text → Says before after (λ first last. said first last text) result → GivesConf before after said r result
+conf_given before after said r text (Ok conf) read says = (text, read, says)
+conf_given before after said r text (Err (faults.Conf fault)) read says = (text, read, says)
+conf_given before after said r text (Err faults.Memory) read says = ((text, read.taken, read.few), says)
+conf_given before after said r text (Err _) read says = absurd says
 
 -- a buffer of one byte more than a text may have was filled
 pub read_full : (r : Inflow) (text : List ℕ) → Takes r.before r.now (take (length text) text) → length text ≡ most_text_bytes + 1 → ReadsText r text
@@ -40,27 +40,24 @@ pub nothing_read : (left : Option (List ℕ)) → (text : List ℕ) × Takes lef
 nothing_read left = ([], Takes-none left, omega arith)
 
 -- a command over a configuration that was given
-pub runs_over : (said : List ℕ → Result Conf ConfFault → Type 0) (r : Inflow) (untouched : Type 0) (fault : Option RunFault) (Ran : Site → Type 0) (conf : Conf)
-    → GivesConf said r (Ok conf) → ((text : List ℕ) → said text (Ok conf) → Ran (site_of text (options_in conf))) → Runs said r untouched fault Ran
-runs_over said r untouched fault Ran conf given ran = inl (given.0, conf, given.1, given.2, ran given.0 given.2)
+pub runs_over : (before after : ℕ) (said : ℕ → ℕ → List ℕ → Result Conf ConfFault → Type 0) (r : Inflow) (untouched : Type 0) (fault : Option RunFault) (Ran : Site → Type 0)
+    (conf : Conf) → GivesConf before after said r (Ok conf) → ((text : List ℕ) → said before after text (Ok conf) → Ran (site_of text (options_in conf)))
+    → Runs before after said r untouched fault Ran
+runs_over before after said r untouched fault Ran conf given ran = inl (given.0, conf, given.1, given.2, ran given.0 given.2)
 
 -- the site of a text that says a configuration
 pub site_is : (before after : ℕ) (text : List ℕ) (conf : Conf) → IsSaid before after text (Ok conf) → IsSiteOf conf (site_of text (options_in conf))
-site_is before after text conf said = record {
-  options = refl;
-  names = names_caches text (options_in conf) said.0;
-  rules = said.1.0;
-  task_names = names_caches text (options_in conf) said.0;
-  task_rules = said.1.1;
-}
+site_is before after text conf said = record { options = refl; rules = said.1.0; task_rules = said.1.1 }
 
 -- what is given for a command that needs a cache
-pub cache_given : (before after : ℕ) (r : Inflow) (conf : Conf) (result : Result Conf RunFault) → GivesConf (IsSaid before after) r (Ok conf)
-    → ((before after : ℕ) (text : List ℕ) → IsSaid before after text (Ok conf) → Says (IsSaidWithACache before after text) result) → GivesConf (IsSaidWithACache before after) r result
-cache_given before after r conf result given says = conf_given (IsSaidWithACache before after) r given.0 result given.1 (says before after given.0 given.2)
+pub cache_given : (before after : ℕ) (r : Inflow) (conf : Conf) (result : Result Conf RunFault) → GivesConf before after IsSaid r (Ok conf)
+    → ((before after : ℕ) (text : List ℕ) → IsSaid before after text (Ok conf) → Says before after (λ first last. IsSaidWithACache first last text) result)
+    → GivesConf before after IsSaidWithACache r result
+cache_given before after r conf result given says = conf_given before after IsSaidWithACache r given.0 result given.1 (says before after given.0 given.2)
 
 -- what holds of a run, said of more
-pub runs_map : (said : List ℕ → Result Conf ConfFault → Type 0) (r : Inflow) (untouched still : Type 0) (fault : Option RunFault) (Ran Did : Site → Type 0)
-    → (untouched → still) → ((site : Site) → Ran site → Did site) → Runs said r untouched fault Ran → Runs said r still fault Did
-runs_map said r untouched still fault Ran Did same does (inl (text, conf, read, says, ran)) = inl (text, conf, read, says, does (site_of text (options_in conf)) ran)
-runs_map said r untouched still fault Ran Did same does (inr (begun, left)) = inr (begun, same left)
+pub runs_map : (before after : ℕ) (said : ℕ → ℕ → List ℕ → Result Conf ConfFault → Type 0) (r : Inflow) (untouched still : Type 0) (fault : Option RunFault) (Ran Did : Site → Type 0)
+    → (untouched → still) → ((site : Site) → Ran site → Did site) → Runs before after said r untouched fault Ran → Runs before after said r still fault Did
+runs_map before after said r untouched still fault Ran Did same does (inl (text, conf, read, says, ran)) =
+    inl (text, conf, read, says, does (site_of text (options_in conf)) ran)
+runs_map before after said r untouched still fault Ran Did same does (inr (begun, left)) = inr (begun, same left)

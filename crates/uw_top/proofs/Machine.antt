@@ -11,7 +11,7 @@ use Rattle.uw_ends.specs.declared.ends.RunFault.{RunFault}
 use Rattle.uw_ends.specs.declared.ends.RunFault.TheVariants as faults
 use Rattle.uw_session.specs.Exchange.{Site, exchange_bytes}
 use Rattle.uw_top.specs.Pipe.{EndsBy, Ending, IsAtMost, IsBelowMost, IsTurn, LeavesAllowed, TurnsLead, PipeRun, Turn, asks_of_turn, brief_of, bytes_of, frame_of_end, frames_of, moments_of, most_packets, unbounded}
-use Rattle.uw_top.specs.PipeSteps.{SoFar, Goes, Stops, LooksFurther}
+use Rattle.uw_top.specs.PipeSteps.{SoFar, Goes, IsLast, LooksFurther}
 
 -- a count that rose since a moment rose since every earlier one
 pub rose_since : (before middle now : ℕ) → before ≤ middle → Rose middle now → Rose before now
@@ -74,6 +74,8 @@ abbrev pub ending_behind : Option (List ℕ) → Option (List ℕ) → Option (L
 ending_behind left now taken taken_now ended f0 f2 s0 s2 count rest part late = record {
   src = record { before = left; now = now; ended = ended; faults_before = f0; faults_now = f2 };
   snk = record { before = taken; now = taken_now; faults_before = s0; faults_now = s2 };
+  allowed = unbounded;
+  still = unbounded;
   count = count;
   rest = rest;
   part = part;
@@ -93,17 +95,31 @@ ends_later : (led : List Asking → ℕ → Type 0) (site : Site) (left middle n
     → EndsBy led site (ending_behind middle now between taken_now ended f1 f2 s1 s2 0 rest part late) fault
     → EndsBy led site (ending_behind left now taken taken_now ended f0 f2 s0 s2 count rest part late) fault
 ends_later led site left middle now taken between taken_now ended f0 f1 f2 s0 s1 s2 count rest part late None lf ls few e =
-    (e.0, e.1, elim e.2 [ inl b ↦ inl (few, b.1, b.2) | inr a ↦ absurd (omega (arith, a.0)) ])
+    (e.0, e.1, elim e.2 [ inl b ↦ inl (few, b.1, b.2) | inr a ↦ absurd (omega (arith, a.0)) ], e.3)
 ends_later led site left middle now taken between taken_now ended f0 f1 f2 s0 s1 s2 count rest part late (Some faults.ReadFault) lf ls few e =
-    (rose_since f0 f1 f2 lf e.0, elim e.1 [ inl b ↦ inl ((few, b.0.1, b.0.2), b.1) | inr a ↦ absurd (omega (arith, a.0.0)) ])
+    (rose_since f0 f1 f2 lf e.0, elim e.1 [ inl b ↦ inl ((few, b.0.1, b.0.2), b.1) | inr a ↦ absurd (omega (arith, a.0.0)) ], e.2)
 ends_later led site left middle now taken between taken_now ended f0 f1 f2 s0 s1 s2 count rest part late (Some faults.WriteFault) lf ls few e =
     let cut = e.2 in
-    (rose_since s0 s1 s2 ls e.0, few, record { turn = cut.turn; is = cut.is; asks = cut.asks; moment = cut.moment; read = cut.read; written = cut.written })
+    (rose_since s0 s1 s2 ls e.0, few, record { turn = cut.turn; is = cut.is; asks = cut.asks; allows = cut.allows; moment = cut.moment; read = cut.read; written = cut.written })
 ends_later led site left middle now taken between taken_now ended f0 f1 f2 s0 s1 s2 count rest part late (Some (faults.Truncated got want)) lf ls few e =
-    (e.0, e.1, (few, e.2.1, e.2.2))
+    (e.0, e.1, (few, e.2.1, e.2.2), e.3)
 ends_later led site left middle now taken between taken_now ended f0 f1 f2 s0 s1 s2 count rest part late (Some (faults.BadPacket packet)) lf ls few e =
-    (e.0, (few, e.1.1, e.1.2))
-ends_later led site left middle now taken between taken_now ended f0 f1 f2 s0 s1 s2 count rest part late (Some faults.Memory) lf ls few e = e
+    (e.0, (few, e.1.1, e.1.2), e.2)
+ends_later led site left middle now taken between taken_now ended f0 f1 f2 s0 s1 s2 count rest part late (Some faults.Memory) lf ls few e = (
+      elim e.0 [
+        | inl before ↦ inl before
+        | inr behind ↦ inr (record {
+          packet = behind.packet;
+          is = behind.is;
+          moment = behind.moment;
+          read = behind.read;
+          asked = behind.asked;
+          stops = behind.stops;
+        })
+      ],
+      e.1,
+      e.2,
+    )
 ends_later led site left middle now taken between taken_now ended f0 f1 f2 s0 s1 s2 count rest part late (Some faults.TooMany) lf ls few e = absurd (omega (arith, e.1.0))
 ends_later led site left middle now taken between taken_now ended f0 f1 f2 s0 s1 s2 count rest part late (Some _) lf ls few e = absurd e
 
@@ -115,7 +131,7 @@ pub run_ends : {S Clk : Type 0} (gave : Clk → Clk → List ℕ → Type 0)
     (ended : Bool) (f0 f1 f2 s0 s1 s2 served : ℕ) (fault : Option RunFault)
     → f0 ≤ f1 → s0 ≤ s1 → served < most_packets
     → SoFar leads start site held told left middle taken between (gave clock mid) served
-    → (told_now ≡ told) × Stops (leads held after) site (record { before = middle; now = now; ended = ended; faults_before = f1; faults_now = f2 })
+    → (told_now ≡ told) × IsLast (leads held after) site (record { before = middle; now = now; ended = ended; faults_before = f1; faults_now = f2 })
     (record { before = between; now = taken_now; faults_before = s1; faults_now = s2 }) (gave mid later) fault
     → PipeRun leads start after unbounded site (record { before = left; now = now; ended = ended; faults_before = f0; faults_now = f2 })
     (record { before = taken; now = taken_now; faults_before = s0; faults_now = s2 }) (gave clock later) told_now fault
@@ -126,6 +142,7 @@ run_ends gave gave_more leads start held after site told told_now left middle no
       turns = s.turns;
       behind = held;
       left = unbounded;
+      still = unbounded;
       rest = t.rest;
       part = t.part;
       late = t.moment ∷ [];
@@ -151,6 +168,7 @@ full gave leads start held site told left middle now taken taken_now clock mid e
   turns = s.turns;
   behind = held;
   left = unbounded;
+  still = unbounded;
   rest = rest;
   part = [];
   late = [];
@@ -167,31 +185,32 @@ full gave leads start held site told left middle now taken taken_now clock mid e
 pub run_is_full : {S Clk : Type 0} (gave : Clk → Clk → List ℕ → Type 0)
     (leads : S → S → List Asking → ℕ → Type 0) (start held : S) (site : Site) (told : List Brief) (left middle now taken taken_now : Option (List ℕ)) (clock mid : Clk)
     (ended : Bool) (f0 f1 f2 s0 s1 : ℕ) (fault : Option RunFault) (served : ℕ)
-    → f0 ≤ f1 → served ≡ most_packets
+    → f0 ≤ f1 → served ≡ most_packets → leads held held [] 0
     → SoFar leads start site held told left middle taken taken_now (gave clock mid) served
     → LooksFurther (record { before = middle; now = now; ended = ended; faults_before = f1; faults_now = f2 }) fault
     → PipeRun leads start held unbounded site (record { before = left; now = now; ended = ended; faults_before = f0; faults_now = f2 })
     (record { before = taken; now = taken_now; faults_before = s0; faults_now = s1 }) (gave clock mid) told fault
-run_is_full gave leads start held site told left middle now taken taken_now clock mid ended f0 f1 f2 s0 s1 None served lf all s t =
+run_is_full gave leads start held site told left middle now taken taken_now clock mid ended f0 f1 f2 s0 s1 None served lf all none s t =
     full gave leads start held site told left middle now taken taken_now clock mid ended f0 f2 s0 s1 [] None served all s t.0
-    (refl, t.1, inr (s.count ∙ all, refl, refl))
-run_is_full gave leads start held site told left middle now taken taken_now clock mid ended f0 f1 f2 s0 s1 (Some faults.TooMany) served lf all s t =
+    (refl, t.1, inr (s.count ∙ all, refl, refl), (none, refl))
+run_is_full gave leads start held site told left middle now taken taken_now clock mid ended f0 f1 f2 s0 s1 (Some faults.TooMany) served lf all none s t =
     full gave leads start held site told left middle now taken taken_now clock mid ended f0 f2 s0 s1 (t.0 ∷ []) (Some faults.TooMany) served all s t.1
-    (refl, (s.count ∙ all, refl, refl))
-run_is_full gave leads start held site told left middle now taken taken_now clock mid ended f0 f1 f2 s0 s1 (Some faults.ReadFault) served lf all s t =
+    (refl, (s.count ∙ all, refl, refl), (none, refl))
+run_is_full gave leads start held site told left middle now taken taken_now clock mid ended f0 f1 f2 s0 s1 (Some faults.ReadFault) served lf all none s t =
     full gave leads start held site told left middle now taken taken_now clock mid ended f0 f2 s0 s1 [] (Some faults.ReadFault) served all s t.0
-    (rose_since f0 f1 f2 lf t.1, inr ((s.count ∙ all, refl, refl), refl))
-run_is_full gave leads start held site told left middle now taken taken_now clock mid ended f0 f1 f2 s0 s1 (Some _) served lf all s t = absurd t
+    (rose_since f0 f1 f2 lf t.1, inr ((s.count ∙ all, refl, refl), refl), (none, refl))
+run_is_full gave leads start held site told left middle now taken taken_now clock mid ended f0 f1 f2 s0 s1 (Some _) served lf all none s t = absurd t
 
 -- a run that found no memory before its first packet
 pub nothing_done : {S Clk : Type 0} (gave : Clk → Clk → List ℕ → Type 0) (gave_none : (clock : Clk) → gave clock clock [])
     (leads : S → S → List Asking → ℕ → Type 0) (start : S) (site : Site) (left taken : Option (List ℕ)) (clock : Clk) (ended : Bool) (f0 f1 s0 s1 : ℕ)
-    → PipeRun leads start start unbounded site (record { before = left; now = left; ended = ended; faults_before = f0; faults_now = f1 })
+    → leads start start [] 0 → PipeRun leads start start unbounded site (record { before = left; now = left; ended = ended; faults_before = f0; faults_now = f1 })
     (record { before = taken; now = taken; faults_before = s0; faults_now = s1 }) (gave clock clock) [] (Some faults.Memory)
-nothing_done gave gave_none leads start site left taken clock ended f0 f1 s0 s1 = record {
+nothing_done gave gave_none leads start site left taken clock ended f0 f1 s0 s1 none = record {
   turns = [];
   behind = start;
   left = unbounded;
+  still = unbounded;
   rest = [];
   part = [];
   late = [];
@@ -201,5 +220,5 @@ nothing_done gave gave_none leads start site left taken clock ended f0 f1 s0 s1 
   written = Gives-none taken;
   moments = gave_none clock;
   briefs = refl;
-  ending = (inl (inl refl), refl, omega arith);
+  ending = (inl (inl refl, (none, refl)), refl, omega arith);
 }

@@ -1,4 +1,6 @@
 use Rattle.std.proofs.Common.{◌∙◌, arith}
+use Rattle.uw_keeper.specs.Keeping.{keeping}
+use Rattle.uw_chain.proofs.SpoolLemmas.{kept_none}
 use Rattle.uw_top.specs.Pipe.{both_lead}
 use Rattle.uw_top.proofs.Machine.{none_yet, one_more, run_ends, run_is_full}
 use Rattle.uw_top.proofs.pipe.serve.Goals as goal
@@ -30,4 +32,5 @@ loop-served-preserved g c =
 pub returns : goal.returns
 returns g c = λ site is.
     let i = c.loop-served.invariant in
-    run_is_full g.C.Clock.gave (both_lead g.D.Desk.leads) _ _ site _ _ _ _ _ _ c.args.clock.now c.loop-served.clock _ _ _ _ _ _ _ c.loop-served.served i.src (omega arith) (i.so_far site is) c.look_further.ensures.further
+    run_is_full g.C.Clock.gave (both_lead g.D.Desk.leads) _ _ site _ _ _ _ _ _ c.args.clock.now c.loop-served.clock _ _ _ _ _ _ _ c.loop-served.served i.src (omega arith)
+    (g.met.D.Desk.leads_none c.loop-served.desk, kept_none (keeping g.P.Keeper.rows g.P.Keeper.append_faults g.P.Keeper.other_faults c.loop-served.keep)) (i.so_far site is) c.look_further.ensures.further

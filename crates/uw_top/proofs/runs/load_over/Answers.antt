@@ -12,5 +12,5 @@ returns-in-Ok-clause-loads g c =
     let snk = outflow g.K.Sink.taken g.K.Sink.faults c.args.snk.now c.load-fault.new.snk in
     let gave = g.C.Clock.gave c.args.clock.now c.load-fault.new.clock in
     let Ran : Site → Type 0 = λ site. LoadRun site.options c.args.first c.args.count snk gave c.new-in-Ok.result.fault in
-    runs_over (IsSaidWithACache before after) _ _ _ Ran c.in-Ok.conf c.in-Ok.ensures.gives
+    runs_over before after IsSaidWithACache _ _ _ Ran c.in-Ok.conf c.in-Ok.ensures.gives
     (λ text said. rw c.new-in-Ok.ensures (c.load-fault.ensures _ (site_is before after text c.in-Ok.conf said.0)))

@@ -18,4 +18,4 @@ returns-in-Ok-clause-pipes g c =
     let Ran : Site → Type 0 = λ site.
     (lists : Lists) × PipeRun (both_lead list_leads) (first_lists site.options, keeping g.P.Keeper.rows g.P.Keeper.append_faults g.P.Keeper.other_faults c.args.keep.now)
     (lists, keeping g.P.Keeper.rows g.P.Keeper.append_faults g.P.Keeper.other_faults c.piped.new.keep) unbounded site src snk gave c.piped.result.briefs c.piped.result.fault in
-    runs_over (IsSaid before after) _ _ _ Ran c.in-Ok.conf c.in-Ok.ensures.gives (λ text said. c.piped.ensures.pipes _ (site_is before after text c.in-Ok.conf said))
+    runs_over before after IsSaid _ _ _ Ran c.in-Ok.conf c.in-Ok.ensures.gives (λ text said. c.piped.ensures.pipes _ (site_is before after text c.in-Ok.conf said))

@@ -1,8 +1,9 @@
-use Rattle.std.proofs.Common.{◌≡◌, sym, ap, subst, ◌∙◌, List}
+use Rattle.std.proofs.Common.{◌≡◌, refl, sym, ap, subst, ◌∙◌, List}
 use Rattle.uw_outside.specs.Streams.{inflow, outflow}
 use Rattle.uw_keeper.specs.Keeping.{Keeping, keeping}
 use Rattle.uw_model.specs.Lists.{Lists}
 use Rattle.uw_model.specs.Asks.{DeskParts}
+use Rattle.uw_chain.proofs.SpoolLemmas.{kept_none}
 use Rattle.uw_rules.specs.PartNumbers.{AskPartsBelow}
 use Rattle.uw_rules.specs.Compiled.{rules_of}
 use Rattle.uw_conf.specs.declared.conf.Options.{Options}
@@ -18,12 +19,12 @@ use Rattle.uw_top.proofs.runs.piped.Goals as goal
 pub returns-in-Err-clause-pipes : goal.returns-in-Err-clause-pipes
 returns-in-Err-clause-pipes g c = λ site is.
     let start : Lists × Keeping = (first_lists site.options, keeping g.P.Keeper.rows g.P.Keeper.append_faults g.P.Keeper.other_faults c.args.keep.now) in
-    rw c.refused.ensures (first_lists site.options, nothing_done g.C.Clock.gave g.met.C.Clock.gave_none (both_lead list_leads) start site _ _ c.args.clock.now _ _ _ _ _)
+    rw c.refused.ensures (first_lists site.options, nothing_done g.C.Clock.gave g.met.C.Clock.gave_none (both_lead list_leads) start site _ _ c.args.clock.now _ _ _ _ _ (refl, kept_none start.1))
 
 pub returns-in-Err-new-clause-pipes : goal.returns-in-Err-new-clause-pipes
 returns-in-Err-new-clause-pipes g c = λ site is.
     let start : Lists × Keeping = (first_lists site.options, keeping g.P.Keeper.rows g.P.Keeper.append_faults g.P.Keeper.other_faults c.args.keep.now) in
-    rw c.refused-in-Err-new.ensures (first_lists site.options, nothing_done g.C.Clock.gave g.met.C.Clock.gave_none (both_lead list_leads) start site _ _ c.args.clock.now _ _ _ _ _)
+    rw c.refused-in-Err-new.ensures (first_lists site.options, nothing_done g.C.Clock.gave g.met.C.Clock.gave_none (both_lead list_leads) start site _ _ c.args.clock.now _ _ _ _ _ (refl, kept_none start.1))
 
 pub serve-fault-requires-clause-known : goal.serve-fault-requires-clause-known
 serve-fault-requires-clause-known g c =

@@ -1,4 +1,4 @@
-use Rattle.std.proofs.Common.{◌≡◌, ℕ, [], Some, inr, refl, sym, ap, ◌∙◌, subst}
+use Rattle.std.proofs.Common.{◌≡◌, ℕ, [], Some, inr, refl, sym, ap, ◌∙◌, subst, arith}
 use Rattle.uw_outside.specs.Streams.{outflow}
 use Rattle.uw_ends.specs.declared.words.Command.TheVariants as commands
 use Rattle.uw_keeper.specs.Keeping.{keeping}
@@ -14,15 +14,15 @@ use Rattle.uw_top.proofs.runs.run.Goals as goal
 -- there was no memory to read the words
 pub returns-in-Err-Memory-clause-loads : goal.returns-in-Err-Memory-clause-loads
 returns-in-Err-Memory-clause-loads g c =
-    λ first count words. rw c.refused-in-Err-Memory.ensures (inr (nothing_read _, (refl, refl, refl, refl, refl)))
+    λ first count words. rw c.refused-in-Err-Memory.ensures (inr ((nothing_read _, omega arith), (refl, refl, refl, refl, refl)))
 
 pub returns-in-Err-Memory-clause-pipes : goal.returns-in-Err-Memory-clause-pipes
 returns-in-Err-Memory-clause-pipes g c =
-    λ words. rw c.refused-in-Err-Memory.ensures (inr (nothing_read _, (refl, refl, refl, refl, refl)))
+    λ words. rw c.refused-in-Err-Memory.ensures (inr ((nothing_read _, omega arith), (refl, refl, refl, refl, refl)))
 
 pub returns-in-Err-Memory-clause-spools : goal.returns-in-Err-Memory-clause-spools
 returns-in-Err-Memory-clause-spools g c =
-    λ words. rw c.refused-in-Err-Memory.ensures (inr (nothing_read _, (refl, refl, refl, refl, refl)))
+    λ words. rw c.refused-in-Err-Memory.ensures (inr ((nothing_read _, omega arith), (refl, refl, refl, refl, refl)))
 
 pub returns-in-Ok-Spool-clause-spools : goal.returns-in-Ok-Spool-clause-spools
 returns-in-Ok-Spool-clause-spools g c = λ words.
@@ -32,7 +32,7 @@ returns-in-Ok-Spool-clause-spools g c = λ words.
     (lists : Lists) × SpoolRun list_leads (first_lists site.options) lists (keeping g.P.Keeper.rows g.P.Keeper.append_faults g.P.Keeper.other_faults c.args.keep.now)
     (keeping g.P.Keeper.rows g.P.Keeper.append_faults g.P.Keeper.other_faults c.spool_over.new.keep) site snk gave c.spool_over.result.fault in
     let Did : Site → Type 0 = λ site. (c.args.src.now ≡ c.args.src.now) × (c.spool_over.result.briefs ≡ []) × Ran site in
-    runs_map (IsSaid (g.M.Patterns.faults c.args.make.now) (g.M.Patterns.faults c.spool_over.new.make)) _ _ _ _ Ran Did (λ same. (refl, same.0, same.1, same.2, c.spool_over.ensures.briefs))
+    runs_map (g.M.Patterns.faults c.args.make.now) (g.M.Patterns.faults c.spool_over.new.make) IsSaid _ _ _ _ Ran Did (λ same. (refl, same.0, same.1, same.2, c.spool_over.ensures.briefs))
     (λ site ran. (refl, c.spool_over.ensures.briefs, ran)) c.spool_over.ensures.spools
 
 pub returns-in-Ok-Load-clause-loads : goal.returns-in-Ok-Load-clause-loads
@@ -46,7 +46,7 @@ returns-in-Ok-Load-clause-loads g c = λ first count words.
     let Ran : Site → Type 0 = λ site. LoadRun site.options c.in-Ok-Load.first c.in-Ok-Load.count snk gave fault in
     let Did : Site → Type 0 = λ site.
     (c.args.src.now ≡ c.args.src.now) × (c.args.keep.now ≡ c.args.keep.now) × (c.load_over.result.briefs ≡ []) × LoadRun site.options first count snk gave fault in
-    runs_map (IsSaidWithACache (g.M.Patterns.faults c.args.make.now) (g.M.Patterns.faults c.load_over.new.make)) _ _ _ _ Ran Did (λ same. (refl, same.0, same.1, refl, c.load_over.ensures.briefs))
+    runs_map (g.M.Patterns.faults c.args.make.now) (g.M.Patterns.faults c.load_over.new.make) IsSaidWithACache _ _ _ _ Ran Did (λ same. (refl, same.0, same.1, refl, c.load_over.ensures.briefs))
     (λ site ran. (
       refl,
       refl,

@@ -17,5 +17,5 @@ returns-in-Ok-clause-spools g c =
     let Ran : Site → Type 0 = λ site.
     (lists : Lists) × SpoolRun list_leads (first_lists site.options) lists (keeping g.P.Keeper.rows g.P.Keeper.append_faults g.P.Keeper.other_faults c.args.keep.now)
     (keeping g.P.Keeper.rows g.P.Keeper.append_faults g.P.Keeper.other_faults c.spooled-fault.new.keep) site snk gave c.new-in-Ok.result.fault in
-    runs_over (IsSaid before after) _ _ _ Ran c.in-Ok.conf c.in-Ok.ensures.gives
+    runs_over before after IsSaid _ _ _ Ran c.in-Ok.conf c.in-Ok.ensures.gives
     (λ text said. rw c.new-in-Ok.ensures (c.spooled-fault.ensures.spools _ (site_is before after text c.in-Ok.conf said)))
