@@ -8,7 +8,7 @@ use Rattle.uw_model.specs.declared.asks.Ask.{Ask}
 use Rattle.uw_model.specs.declared.asks.Ask.TheVariants as asks
 use Rattle.uw_model.specs.declared.asks.AskAnswer.{AskAnswer}
 use Rattle.uw_model.specs.declared.asks.Asked.{Asked}
-use Rattle.uw_model.specs.Asks.{Asking, DeskParts, answered, Leads, Led}
+use Rattle.uw_model.specs.Asks.{Asking, AsksNothing, DeskParts, answered, Leads, Led}
 use Rattle.uw_cachecmd.specs.declared.commands.CmdFault.{CmdFault}
 use Rattle.uw_cachecmd.specs.Replies.{refusal_reply}
 use Rattle.uw_packet.specs.declared.packet.Header.{Header}
@@ -51,10 +51,10 @@ Stops-then : {X Y : Type 0} → (led : List Asking → ℕ → Type 0) (before n
     (made : List Asked) (end : ChainEnd) → Stops led before now moment course made end → Stops led before now moment (and_then course next) made end
 Stops-then led before now moment course next made (chains.Died true) h =
     let why = h.1.1 in
-    (h.0, (h.1.0, (why.0, λ answer. and_then (why.1 answer) next, Unfolds-then course made (asking why.0 why.1) next why.2, why.3)))
+    (h.0, (h.1.0, (why.0, λ answer. and_then (why.1 answer) next, Unfolds-then course made (asking why.0 why.1) next why.2, why.3, why.4)))
 Stops-then led before now moment course next made (chains.Died false) h =
     let why = h.1 in
-    (h.0, (why.0, λ answer. and_then (why.1 answer) next, Unfolds-then course made (asking why.0 why.1) next why.2, why.3))
+    (h.0, (why.0, λ answer. and_then (why.1 answer) next, Unfolds-then course made (asking why.0 why.1) next why.2, why.3, why.4))
 Stops-then led before now moment course next made chains.Memory h =
     elim h [
       | inl short ↦ inl (and_then short.0 next, Unfolds-then course made short.0 next short.1, short.2)
@@ -62,7 +62,7 @@ Stops-then led before now moment course next made chains.Memory h =
     ]
 
 -- no ask was made
-pub Led-none : (led : List Asking → ℕ → Type 0) (told : Option (List ℕ)) (moment : ℕ) → led [] 0 → Led led told told moment [] []
+Led-none : (led : List Asking → ℕ → Type 0) (told : Option (List ℕ)) (moment : ℕ) → led [] 0 → Led led told told moment [] []
 Led-none led told moment none = (0, none, Spends-none told)
 
 -- one ask was made
@@ -108,10 +108,10 @@ pub one_unanswered : (T : Type 0) (led : List Asking → ℕ → Type 0) (before
     → Stops led before now moment (asking ask (λ answer. ended (reply_to answer))) after end
 one_unanswered T led before now moment ask reply_to list after (chains.Died true) none h =
     subst (λ (l : List Asked). Stops led before now moment (asking ask (λ answer. ended (reply_to answer))) l (chains.Died true)) (sym (h.0 ∙ none))
-    (h.1, (h.2.0, (ask, λ answer. ended (reply_to answer), refl, h.2.1)))
+    (h.1, (h.2.0, (ask, λ answer. ended (reply_to answer), refl, h.2.1, h.3)))
 one_unanswered T led before now moment ask reply_to list after (chains.Died false) none h =
     subst (λ (l : List Asked). Stops led before now moment (asking ask (λ answer. ended (reply_to answer))) l (chains.Died false)) (sym (h.0 ∙ none))
-    (h.1, (ask, λ answer. ended (reply_to answer), refl, h.2))
+    (h.1, (ask, λ answer. ended (reply_to answer), refl, h.2, h.3))
 one_unanswered T led before now moment ask reply_to list after chains.Memory none h =
     subst (λ (l : List Asked). Stops led before now moment (asking ask (λ answer. ended (reply_to answer))) l chains.Memory) (sym (h.0 ∙ none))
     (elim h.1 [
@@ -181,15 +181,15 @@ pub packet_unasked : (led : List Asking → ℕ → Type 0) (told : Option (List
     → led [] 0 → GivesContent site.options head block (Err fault) → AnswersPacket led told told site moment head block (Err (fault_before_asks fault))
 packet_unasked led told site moment head block (takes.Refused (refusals.TooBig size limit)) quiet h = absurd h
 packet_unasked led told site moment head block (takes.Refused (refusals.NoModifier m1 m2)) quiet h = absurd h
-packet_unasked led told site moment head block (takes.Refused (refusals.BadBlock at)) quiet h = (h, Led-none led told moment quiet)
+packet_unasked led told site moment head block (takes.Refused (refusals.BadBlock at)) quiet h = (h, asks_nothing led told quiet)
 packet_unasked led told site moment head block (takes.Refused refusals.BadLength) quiet h = absurd h
 packet_unasked led told site moment head block (takes.Truncated got want) quiet h = absurd h
 packet_unasked led told site moment head block takes.ReadFault quiet h = absurd h
-packet_unasked led told site moment head block takes.Memory quiet h = inl (course_of_packet site moment head block, refl, Led-none led told moment quiet)
+packet_unasked led told site moment head block takes.Memory quiet h = inl (refl, asks_nothing led told quiet)
 
 -- the asks of a packet were not followed to its reply
 pub packet_stopped : (led : List Asking → ℕ → Type 0) (before now : Option (List ℕ)) (site : Site) (moment : ℕ) (head : Header) (block : List ℕ) (done : List Asked)
     (end : ChainEnd) → broken_at site.options head block ≡ None → Stops led before now moment (course_of_packet site moment head block) done end
     → AnswersPacket led before now site moment head block (Err (broken_by end done))
 packet_stopped led before now site moment head block done (chains.Died whole) in_grammar h = (in_grammar, h)
-packet_stopped led before now site moment head block done chains.Memory in_grammar h = h
+packet_stopped led before now site moment head block done chains.Memory in_grammar h = inr (in_grammar, h)

@@ -20,7 +20,7 @@ use Rattle.uw_session.specs.Serving.{Flow, IsServed, IsSilent, IsUnwritten, Serv
 use Rattle.uw_session.specs.SessionSteps.{TakesPacket, WritesReply, broken_by, fault_before_asks}
 
 -- no packet was taken: nothing was asked, and nothing was written
-pub serves_untaken : (site : Site) (form : Form) (moment : ℕ) (f : Flow) (fault : TakeFault) → IsSilent f moment → Gives f.snk.before f.snk.now []
+pub serves_untaken : (site : Site) (form : Form) (moment : ℕ) (f : Flow) (fault : TakeFault) → IsSilent f → Gives f.snk.before f.snk.now []
     → TakesPacket site.options f.src (Err fault) → Serves site form moment f (Err (fault_before_asks fault))
 serves_untaken site form moment f (takes.Refused (refusals.TooBig size limit)) silent unwritten h = (unwritten, (silent, h))
 serves_untaken site form moment f (takes.Refused (refusals.NoModifier m1 m2)) silent unwritten h = (unwritten, (silent, h))

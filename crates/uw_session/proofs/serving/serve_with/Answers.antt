@@ -11,7 +11,7 @@ use Rattle.uw_session.specs.declared.faults.ServeFault.{ServeFault}
 use Rattle.uw_session.specs.declared.taking.Content.{Content}
 use Rattle.uw_session.specs.Serving.{Flow, Serves}
 use Rattle.uw_session.specs.SessionSteps.{IsAnswerable, TakesPacket}
-use Rattle.uw_session.proofs.AnsweringLemmas.{IsAnswerable-more, Led-none, both_none}
+use Rattle.uw_session.proofs.AnsweringLemmas.{IsAnswerable-more, asks_nothing, both_none}
 use Rattle.uw_session.proofs.ServingLemmas.{serves_untaken, serves_stopped, serves_written}
 use Rattle.uw_session.proofs.serving.serve_with.Goals as goal
 
@@ -28,7 +28,7 @@ returns-in-Err-clause-serves g c site of_site =
       now = told;
     } in
     subst (λ (fault : ServeFault). Serves site c.args.form c.args.moment f (Err fault)) (sym c.unasked.ensures)
-    (serves_untaken site c.args.form c.args.moment f c.in-Err.fault (Led-none led told c.args.moment
+    (serves_untaken site c.args.form c.args.moment f c.in-Err.fault (asks_nothing led told
     (both_none (g.D.Desk.leads c.args.desk.now c.args.desk.now) (keeping g.P.Keeper.rows g.P.Keeper.append_faults g.P.Keeper.other_faults c.args.keep.now) (g.met.D.Desk.leads_none c.args.desk.now)))
     (Gives-none (g.K.Sink.taken c.args.snk.now))
     (subst (λ (options : Options). TakesPacket options src (Err c.in-Err.fault)) of_site.options c.in-Err.ensures.taken))
