@@ -1,5 +1,5 @@
 -- What a read of a header, a block or a body took from a source, and why it was refused.
-use Rattle.std.specs.Prelude.{◌≡◌, ℕ, ◌<◌, ◌≤◌, ◌^◌, ◌⊎◌, true, List, [], ◌++◌, length, Option, None, Some, Result, Ok, Err}
+use Rattle.std.specs.Prelude.{◌≡◌, ℕ, ◌<◌, ◌≤◌, ◌^◌, ◌⊎◌, Bool, true, false, List, [], ◌++◌, length, Option, None, Some, Result, Ok, Err}
 use Rattle.uw_outside.specs.Faults.{Rose}
 use Rattle.uw_outside.specs.Streams.{Inflow, Takes, IsExhausted}
 use Rattle.uw_packet.specs.declared.packet.Header.{Header}
@@ -22,6 +22,15 @@ pub record IsCut (r : Inflow) (got want : ℕ) : Type 0 where
 pub record HasFailed (r : Inflow) (want : ℕ) : Type 0 where
   pub bytes : (bytes : List ℕ) × (length bytes < want) × Takes r.before r.now bytes
   pub rose : Rose r.faults_before r.faults_now
+
+-- a read failed
+abbrev pub is_read_fault : {T : Type 0} → Result T PacketFault → Bool
+is_read_fault (Ok done) = false
+is_read_fault (Err (faults.Truncated got want)) = false
+is_read_fault (Err (faults.TooBig size limit)) = false
+is_read_fault (Err (faults.BadBlock at)) = false
+is_read_fault (Err faults.ReadFault) = true
+is_read_fault (Err faults.Memory) = false
 
 -- a header was read, or the source was at its end, or it ended inside the four bytes, or a read failed
 abbrev pub ReadsHeader : Inflow → Result (Option Header) PacketFault → Type 0

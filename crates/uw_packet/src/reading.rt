@@ -1,8 +1,9 @@
 // Headers, blocks and bodies, as they come from a source.
-ghost use Rattle.std.specs.Prelude.{◌≡◌, ◌≤◌};
+ghost use Rattle.std.specs.Prelude.{◌≡◌};
+ghost use Rattle.uw_outside.specs.Faults.{HasCause};
 ghost use Rattle.uw_outside.specs.Streams.{inflow};
 ghost use Rattle.uw_packet.specs.Packet.{header_bytes};
-ghost use Rattle.uw_packet.specs.Reads.{ReadsBlock, ReadsHeader, ReadsPacket, SkipsBody};
+ghost use Rattle.uw_packet.specs.Reads.{ReadsBlock, ReadsHeader, ReadsPacket, SkipsBody, is_read_fault};
 
 use crate::{Header, Packet, PacketFault};
 use byteorder::{ByteOrder, LittleEndian};
@@ -27,7 +28,7 @@ fn header_of(bytes: &[u8; 4]) -> Header
 /// Reads a header, four bytes. `None` where the source is at its end.
 pub fn read_header<S: Source>(src: &mut S) -> Result<Option<Header>, PacketFault>
     ensures header { ReadsHeader (inflow S.left S.ended S.faults src.old src.new) result }
-    ensures later { S.faults src.old ≤ S.faults src.new }
+    ensures cause { HasCause (S.faults src.old) (S.faults src.new) (is_read_fault result) }
 {
     let mut bytes = [0; 4];
     match fill(src, &mut bytes) {
@@ -44,7 +45,7 @@ pub fn read_header<S: Source>(src: &mut S) -> Result<Option<Header>, PacketFault
 /// Reads the block behind a header, just `size` bytes. The memory is taken before the first read.
 pub fn read_block<S: Source>(alloc: Global, src: &mut S, size: u16) -> Result<Bytes, PacketFault>
     ensures block { ReadsBlock (inflow S.left S.ended S.faults src.old src.new) size result }
-    ensures later { S.faults src.old ≤ S.faults src.new }
+    ensures cause { HasCause (S.faults src.old) (S.faults src.new) (is_read_fault result) }
 {
     let mut block = vec![in alloc; 0u8; usize::from(size)].map_err(|_| PacketFault::Memory)?;
     match fill(src, block.as_mut_slice()) {
@@ -60,7 +61,7 @@ pub fn read_block<S: Source>(alloc: Global, src: &mut S, size: u16) -> Result<By
 // Takes so many bytes and drops them, piece by piece.
 fn skip_pieces<S: Source>(src: &mut S, len: u64) -> Result<(), PacketFault>
     ensures body { SkipsBody (inflow S.left S.ended S.faults src.old src.new) len result }
-    ensures later { S.faults src.old ≤ S.faults src.new }
+    ensures cause { HasCause (S.faults src.old) (S.faults src.new) (is_read_fault result) }
 {
     let mut piece = [0; PIECE];
     let mut skipped = 0;
@@ -83,7 +84,7 @@ fn skip_pieces<S: Source>(src: &mut S, len: u64) -> Result<(), PacketFault>
 /// Takes just `len` bytes, a body, and drops them.
 pub fn skip_body<S: Source>(src: &mut S, len: u64) -> Result<(), PacketFault>
     ensures body { SkipsBody (inflow S.left S.ended S.faults src.old src.new) len result }
-    ensures later { S.faults src.old ≤ S.faults src.new }
+    ensures cause { HasCause (S.faults src.old) (S.faults src.new) (is_read_fault result) }
 {
     // The room of a piece is cleared where it is entered, and most packets have no body.
     if len == 0 {
@@ -100,7 +101,7 @@ pub fn read_packet<S: Source>(
     limit: u32,
 ) -> Result<Option<Packet>, PacketFault>
     ensures packet { ReadsPacket (inflow S.left S.ended S.faults src.old src.new) limit result }
-    ensures later { S.faults src.old ≤ S.faults src.new }
+    ensures cause { HasCause (S.faults src.old) (S.faults src.new) (is_read_fault result) }
 {
     let Some(head) = read_header(src)? else {
         return Ok(None);

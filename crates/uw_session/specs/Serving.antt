@@ -150,6 +150,26 @@ Serves site form moment f (Ok served) = IsServed site form moment f served
 Serves site form moment f (Err (serves.WriteFault done)) = IsUnwritten site form moment f done
 Serves site form moment f (Err fault) = Gives f.snk.before f.snk.now [] × NotServed site moment f fault
 
+-- a read failed
+abbrev pub is_failed_read : ServeFault → Bool
+is_failed_read serves.ReadFault = true
+is_failed_read _ = false
+
+-- a write failed
+abbrev pub is_failed_write : ServeFault → Bool
+is_failed_write (serves.WriteFault done) = true
+is_failed_write _ = false
+
+-- a read failed in a request
+abbrev pub has_failed_reading : Result Served ServeFault → Bool
+has_failed_reading (Ok served) = false
+has_failed_reading (Err fault) = is_failed_read fault
+
+-- a write failed in a request
+abbrev pub has_failed_writing : Result Served ServeFault → Bool
+has_failed_writing (Ok served) = false
+has_failed_writing (Err fault) = is_failed_write fault
+
 -- the worker died
 abbrev pub is_death_of_worker : ServeFault → Bool
 is_death_of_worker (serves.Died whole done) = true

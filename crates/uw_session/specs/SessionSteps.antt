@@ -102,6 +102,14 @@ GivesLength content (Err _) = ⊥
 
 -- ---- taking
 
+-- a read failed
+abbrev pub has_failed_taking : {T : Type 0} → Result T TakeFault → Bool
+has_failed_taking (Ok taken) = false
+has_failed_taking (Err (takes.Refused refusal)) = false
+has_failed_taking (Err (takes.Truncated got want)) = false
+has_failed_taking (Err takes.ReadFault) = true
+has_failed_taking (Err takes.Memory) = false
+
 -- a header was taken and is accepted; or the source was at its end; or why there is none
 abbrev pub TakesHeader : Options → Inflow → Result (Option Header) TakeFault → Type 0
 TakesHeader options r (Ok None) = Takes r.before r.now [] × IsOver r

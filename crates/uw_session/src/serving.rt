@@ -1,5 +1,5 @@
 // One request: its packet is taken, its asks are made, its reply is written.
-ghost use Rattle.std.specs.Prelude.{◌≡◌, ◌<◌, ◌≤◌, ◌^◌, length, not, true, false, IfOk};
+ghost use Rattle.std.specs.Prelude.{◌≡◌, ◌<◌, ◌^◌, length, not, true, false, IfOk};
 ghost use Rattle.uw_outside.specs.Faults.{HasCause};
 ghost use Rattle.uw_outside.specs.Streams.{inflow, outflow};
 ghost use Rattle.uw_rules.specs.PartNumbers.{AskPartsBelow};
@@ -8,7 +8,7 @@ ghost use Rattle.uw_chain.specs.KeptSearches.{FitTable};
 ghost use Rattle.uw_session.specs.declared.faults.Form.TheVariants as forms;
 ghost use Rattle.uw_chain.specs.Spooling.{both_led, kept_by};
 ghost use Rattle.uw_session.specs.Exchange.{HasParts, IsSiteOf, Site, formed};
-ghost use Rattle.uw_session.specs.Serving.{Serves, has_died_serving};
+ghost use Rattle.uw_session.specs.Serving.{Serves, has_died_serving, has_failed_reading, has_failed_writing};
 ghost use Rattle.uw_session.specs.SessionSteps.{WritesReply};
 
 use crate::answering::{Answered, answer_content, broken_off, unasked};
@@ -43,7 +43,7 @@ fn write_reply<K: Sink>(
     snk: &mut K,
 ) -> Result<Served, ServeFault>
     ensures writes { WritesReply form packet moment answered.asks answered.reply (outflow K.taken K.faults snk.old snk.new) result }
-    ensures later { K.faults snk.old ≤ K.faults snk.new }
+    ensures cause { HasCause (K.faults snk.old) (K.faults snk.new) (has_failed_writing result) }
 {
     let Answered { asks, reply } = answered;
     let put = match form {
@@ -92,8 +92,8 @@ pub fn serve_with<'c, S: Source, K: Sink, L: Life, D: Desk, P: Keeper>(
           now = L.allowances life.new;
         }) result }
     ensures fits { FitTable conf.now.routes searches.new }
-    ensures reads { S.faults src.old ≤ S.faults src.new }
-    ensures writes { K.faults snk.old ≤ K.faults snk.new }
+    ensures reads { HasCause (S.faults src.old) (S.faults src.new) (has_failed_reading result) }
+    ensures writes { HasCause (K.faults snk.old) (K.faults snk.new) (has_failed_writing result) }
     ensures cause { HasCause (L.deaths life.old) (L.deaths life.new) (has_died_serving result) }
     ensures alive { L.alive life.new ≡ not (has_died_serving result) }
     ensures parts { D.parts desk.new ≡ D.parts desk.old }
@@ -135,8 +135,8 @@ pub fn serve_one<S: Source, K: Sink, L: Life, D: Desk, P: Keeper>(
           before = L.allowances life.old;
           now = L.allowances life.new;
         }) result }
-    ensures reads { S.faults src.old ≤ S.faults src.new }
-    ensures writes { K.faults snk.old ≤ K.faults snk.new }
+    ensures reads { HasCause (S.faults src.old) (S.faults src.new) (has_failed_reading result) }
+    ensures writes { HasCause (K.faults snk.old) (K.faults snk.new) (has_failed_writing result) }
     ensures cause { HasCause (L.deaths life.old) (L.deaths life.new) (has_died_serving result) }
     ensures alive { L.alive life.new ≡ not (has_died_serving result) }
     ensures parts { D.parts desk.new ≡ D.parts desk.old }

@@ -1,10 +1,11 @@
 // A packet is taken from a source: its header, its block and its body, each judged before the next is read.
-ghost use Rattle.std.specs.Prelude.{◌≡◌, ◌<◌, ◌≤◌, ◌^◌, length, false, None, IfOk, IfSome};
+ghost use Rattle.std.specs.Prelude.{◌≡◌, ◌<◌, ◌^◌, length, false, None, IfOk, IfSome};
+ghost use Rattle.uw_outside.specs.Faults.{HasCause};
 ghost use Rattle.uw_outside.specs.Streams.{inflow};
 ghost use Rattle.uw_model.specs.Asks.{DeskParts};
 ghost use Rattle.uw_conf.specs.Given.{options_in, parts_in};
 ghost use Rattle.uw_session.specs.Exchange.{header_refusal, is_request, is_task};
-ghost use Rattle.uw_session.specs.SessionSteps.{GivesContent, GivesTask, GivesLength, IsAnswerable, IsJudged, TakesHeader, TakesPacket, take_fault_of};
+ghost use Rattle.uw_session.specs.SessionSteps.{GivesContent, GivesTask, GivesLength, IsAnswerable, IsJudged, TakesHeader, TakesPacket, has_failed_taking, take_fault_of};
 
 use crate::faults::Refusal;
 use std::alloc::Global;
@@ -155,7 +156,7 @@ fn body_length(content: &Content) -> Result<u64, Refusal>
 // Takes the header of the next packet, if it is accepted; none where the source is at its end.
 fn take_header<S: Source>(conf: &Conf, src: &mut S) -> Result<Option<Header>, TakeFault>
     ensures taken { TakesHeader (options_in conf.now) (inflow S.left S.ended S.faults src.old src.new) result }
-    ensures later { S.faults src.old ≤ S.faults src.new }
+    ensures cause { HasCause (S.faults src.old) (S.faults src.new) (has_failed_taking result) }
 {
     let head = match read_header(src) {
         Ok(Some(head)) => head,
@@ -178,7 +179,7 @@ pub fn take_packet<S: Source>(
     requires few { length conf.now.caches < 2 ^ 32 }
     ensures taken { TakesPacket (options_in conf.now) (inflow S.left S.ended S.faults src.old src.new) result }
     ensures answerable { IfOk result (λ taken. IfSome taken (λ packet. IsAnswerable (parts_in conf.now) packet.1)) }
-    ensures later { S.faults src.old ≤ S.faults src.new }
+    ensures cause { HasCause (S.faults src.old) (S.faults src.new) (has_failed_taking result) }
 {
     let head = match take_header(conf, src) {
         Ok(Some(head)) => head,

@@ -1,8 +1,9 @@
 -- The turns of a run, one after the other.
-use Rattle.std.proofs.Common.{◌≡◌, ℕ, ◌+◌, ◌<◌, ◌≤◌, Bool, List, [], ◌∷◌, ◌++◌, length, Option, None, Some, refl, sym, ap, inl, inr, lit<, ◌∙◌, arith, append_assoc, subst}
+use Rattle.std.proofs.Common.{◌≡◌, ℕ, ◌+◌, ◌<◌, ◌≤◌, Bool, false, true, List, [], ◌∷◌, ◌++◌, length, Option, None, Some, refl, sym, ap, inl, inr, lit<, ◌∙◌, arith, append_assoc, subst}
 use Rattle.std.proofs.lemmas.List.{append-nil, length-append, map-append}
 use Rattle.std.proofs.lemmas.Grind.{flat_map-append}
-use Rattle.uw_outside.specs.Faults.{Rose}
+use Rattle.uw_outside.specs.Faults.{HasCause, Rose}
+use Rattle.uw_outside.proofs.Causes.{HasCause-none, HasCause-then}
 use Rattle.uw_outside.specs.Streams.{Inflow, Outflow, Takes}
 use Rattle.uw_outside.proofs.Streams.{Takes-none, Takes-append, Gives-none, Gives-append}
 use Rattle.uw_model.specs.Asks.{Asking}
@@ -10,7 +11,7 @@ use Rattle.uw_ends.specs.declared.ends.Brief.{Brief}
 use Rattle.uw_ends.specs.declared.ends.RunFault.{RunFault}
 use Rattle.uw_ends.specs.declared.ends.RunFault.TheVariants as faults
 use Rattle.uw_session.specs.Exchange.{Site, exchange_bytes}
-use Rattle.uw_top.specs.Pipe.{EndsBy, Ending, IsAtMost, IsBelowMost, IsTurn, LeavesAllowed, TurnsLead, PipeRun, Turn, asks_of_turn, brief_of, bytes_of, frame_of_end, frames_of, moments_of, most_packets, unbounded}
+use Rattle.uw_top.specs.Pipe.{EndsBy, Ending, IsAtMost, IsBelowMost, IsTurn, LeavesAllowed, TurnsLead, PipeRun, Turn, asks_of_turn, brief_of, bytes_of, frame_of_end, frames_of, has_failed_to_read, has_failed_to_write, moments_of, most_packets, unbounded}
 use Rattle.uw_top.specs.PipeSteps.{SoFar, Goes, IsLast, LooksFurther}
 
 -- a count that rose since a moment rose since every earlier one
@@ -129,13 +130,13 @@ pub run_ends : {S Clk : Type 0} (gave : Clk → Clk → List ℕ → Type 0)
     (leads : S → S → List Asking → ℕ → Type 0) (start held after : S) (site : Site) (told told_now : List Brief)
     (left middle now taken between taken_now : Option (List ℕ)) (clock mid later : Clk)
     (ended : Bool) (f0 f1 f2 s0 s1 s2 served : ℕ) (fault : Option RunFault)
-    → f0 ≤ f1 → s0 ≤ s1 → served < most_packets
+    → f1 ≡ f0 → s1 ≡ s0 → HasCause f1 f2 (has_failed_to_read fault) → HasCause s1 s2 (has_failed_to_write fault) → served < most_packets
     → SoFar leads start site held told left middle taken between (gave clock mid) served
     → (told_now ≡ told) × IsLast (leads held after) site (record { before = middle; now = now; ended = ended; faults_before = f1; faults_now = f2 })
     (record { before = between; now = taken_now; faults_before = s1; faults_now = s2 }) (gave mid later) fault
     → PipeRun leads start after unbounded site (record { before = left; now = now; ended = ended; faults_before = f0; faults_now = f2 })
     (record { before = taken; now = taken_now; faults_before = s0; faults_now = s2 }) (gave clock later) told_now fault
-run_ends gave gave_more leads start held after site told told_now left middle now taken between taken_now clock mid later ended f0 f1 f2 s0 s1 s2 served fault lf ls few s stopped =
+run_ends gave gave_more leads start held after site told told_now left middle now taken between taken_now clock mid later ended f0 f1 f2 s0 s1 s2 served fault lf ls reads writes few s stopped =
     let few' : length s.turns < most_packets = rw s.count few in
     let t = stopped.1 in
     record {
@@ -152,7 +153,9 @@ run_ends gave gave_more leads start held after site told told_now left middle no
       written = Gives-append taken between taken_now (frames_of s.turns) t.part s.written t.written;
       moments = gave_more clock mid later (moments_of s.turns) (t.moment ∷ []) s.moments t.moments;
       briefs = stopped.0 ∙ s.briefs;
-      ending = ends_later (leads held after) site left middle now taken between taken_now ended f0 f1 f2 s0 s1 s2 (length s.turns) t.rest t.part (t.moment ∷ []) fault lf ls few' t.ending;
+      reads = HasCause-then f0 f1 f2 (has_failed_to_read fault) lf reads;
+      writes = HasCause-then s0 s1 s2 (has_failed_to_write fault) ls writes;
+      ending = ends_later (leads held after) site left middle now taken between taken_now ended f0 f1 f2 s0 s1 s2 (length s.turns) t.rest t.part (t.moment ∷ []) fault (omega (arith, lf)) (omega (arith, ls)) few' t.ending;
     }
 
 -- all packets of a run were served, and this much was read behind them
@@ -160,11 +163,11 @@ full : {S Clk : Type 0} (gave : Clk → Clk → List ℕ → Type 0)
     (leads : S → S → List Asking → ℕ → Type 0) (start held : S) (site : Site) (told : List Brief) (left middle now taken taken_now : Option (List ℕ)) (clock mid : Clk)
     (ended : Bool) (f0 f2 s0 s1 : ℕ) (rest : List ℕ) (fault : Option RunFault) (served : ℕ) → served ≡ most_packets
     → (s : SoFar leads start site held told left middle taken taken_now (gave clock mid) served)
-    → Takes middle now rest
+    → Takes middle now rest → HasCause f0 f2 (has_failed_to_read fault) → HasCause s0 s1 (has_failed_to_write fault)
     → EndsBy (leads held held) site (ending_behind left now taken taken_now ended f0 f2 s0 s1 (length s.turns) rest [] []) fault
     → PipeRun leads start held unbounded site (record { before = left; now = now; ended = ended; faults_before = f0; faults_now = f2 })
     (record { before = taken; now = taken_now; faults_before = s0; faults_now = s1 }) (gave clock mid) told fault
-full gave leads start held site told left middle now taken taken_now clock mid ended f0 f2 s0 s1 rest fault served all s read ending = record {
+full gave leads start held site told left middle now taken taken_now clock mid ended f0 f2 s0 s1 rest fault served all s read reads writes ending = record {
   turns = s.turns;
   behind = held;
   left = unbounded;
@@ -178,6 +181,8 @@ full gave leads start held site told left middle now taken taken_now clock mid e
   written = rw append-nil s.written;
   moments = rw append-nil s.moments;
   briefs = s.briefs;
+  reads = reads;
+  writes = writes;
   ending = ending;
 }
 
@@ -185,28 +190,31 @@ full gave leads start held site told left middle now taken taken_now clock mid e
 pub run_is_full : {S Clk : Type 0} (gave : Clk → Clk → List ℕ → Type 0)
     (leads : S → S → List Asking → ℕ → Type 0) (start held : S) (site : Site) (told : List Brief) (left middle now taken taken_now : Option (List ℕ)) (clock mid : Clk)
     (ended : Bool) (f0 f1 f2 s0 s1 : ℕ) (fault : Option RunFault) (served : ℕ)
-    → f0 ≤ f1 → served ≡ most_packets → leads held held [] 0
+    → f1 ≡ f0 → s1 ≡ s0 → HasCause f1 f2 (has_failed_to_read fault) → served ≡ most_packets → leads held held [] 0
     → SoFar leads start site held told left middle taken taken_now (gave clock mid) served
     → LooksFurther (record { before = middle; now = now; ended = ended; faults_before = f1; faults_now = f2 }) fault
     → PipeRun leads start held unbounded site (record { before = left; now = now; ended = ended; faults_before = f0; faults_now = f2 })
     (record { before = taken; now = taken_now; faults_before = s0; faults_now = s1 }) (gave clock mid) told fault
-run_is_full gave leads start held site told left middle now taken taken_now clock mid ended f0 f1 f2 s0 s1 None served lf all none s t =
+run_is_full gave leads start held site told left middle now taken taken_now clock mid ended f0 f1 f2 s0 s1 None served lf ls reads all none s t =
     full gave leads start held site told left middle now taken taken_now clock mid ended f0 f2 s0 s1 [] None served all s t.0
+    (HasCause-then f0 f1 f2 false lf reads) (HasCause-none s0 s1 ls)
     (refl, t.1, inr (s.count ∙ all, refl, refl), (none, refl))
-run_is_full gave leads start held site told left middle now taken taken_now clock mid ended f0 f1 f2 s0 s1 (Some faults.TooMany) served lf all none s t =
+run_is_full gave leads start held site told left middle now taken taken_now clock mid ended f0 f1 f2 s0 s1 (Some faults.TooMany) served lf ls reads all none s t =
     full gave leads start held site told left middle now taken taken_now clock mid ended f0 f2 s0 s1 (t.0 ∷ []) (Some faults.TooMany) served all s t.1
+    (HasCause-then f0 f1 f2 false lf reads) (HasCause-none s0 s1 ls)
     (refl, (s.count ∙ all, refl, refl), (none, refl))
-run_is_full gave leads start held site told left middle now taken taken_now clock mid ended f0 f1 f2 s0 s1 (Some faults.ReadFault) served lf all none s t =
+run_is_full gave leads start held site told left middle now taken taken_now clock mid ended f0 f1 f2 s0 s1 (Some faults.ReadFault) served lf ls reads all none s t =
     full gave leads start held site told left middle now taken taken_now clock mid ended f0 f2 s0 s1 [] (Some faults.ReadFault) served all s t.0
-    (rose_since f0 f1 f2 lf t.1, inr ((s.count ∙ all, refl, refl), refl), (none, refl))
-run_is_full gave leads start held site told left middle now taken taken_now clock mid ended f0 f1 f2 s0 s1 (Some _) served lf all none s t = absurd t
+    (HasCause-then f0 f1 f2 true lf reads) (HasCause-none s0 s1 ls)
+    (rose_since f0 f1 f2 (omega (arith, lf)) t.1, inr ((s.count ∙ all, refl, refl), refl), (none, refl))
+run_is_full gave leads start held site told left middle now taken taken_now clock mid ended f0 f1 f2 s0 s1 (Some _) served lf ls reads all none s t = absurd t
 
 -- a run that found no memory before its first packet
 pub nothing_done : {S Clk : Type 0} (gave : Clk → Clk → List ℕ → Type 0) (gave_none : (clock : Clk) → gave clock clock [])
-    (leads : S → S → List Asking → ℕ → Type 0) (start : S) (site : Site) (left taken : Option (List ℕ)) (clock : Clk) (ended : Bool) (f0 f1 s0 s1 : ℕ)
-    → leads start start [] 0 → PipeRun leads start start unbounded site (record { before = left; now = left; ended = ended; faults_before = f0; faults_now = f1 })
-    (record { before = taken; now = taken; faults_before = s0; faults_now = s1 }) (gave clock clock) [] (Some faults.Memory)
-nothing_done gave gave_none leads start site left taken clock ended f0 f1 s0 s1 none = record {
+    (leads : S → S → List Asking → ℕ → Type 0) (start : S) (site : Site) (left taken : Option (List ℕ)) (clock : Clk) (ended : Bool) (f0 s0 : ℕ)
+    → leads start start [] 0 → PipeRun leads start start unbounded site (record { before = left; now = left; ended = ended; faults_before = f0; faults_now = f0 })
+    (record { before = taken; now = taken; faults_before = s0; faults_now = s0 }) (gave clock clock) [] (Some faults.Memory)
+nothing_done gave gave_none leads start site left taken clock ended f0 s0 none = record {
   turns = [];
   behind = start;
   left = unbounded;
@@ -220,5 +228,7 @@ nothing_done gave gave_none leads start site left taken clock ended f0 f1 s0 s1 
   written = Gives-none taken;
   moments = gave_none clock;
   briefs = refl;
+  reads = HasCause-none f0 f0 refl;
+  writes = HasCause-none s0 s0 refl;
   ending = (inl (inl refl, (none, refl)), refl, omega arith);
 }

@@ -1,7 +1,7 @@
 -- The machine of `pipe`: packet after packet, each answered by its frame, up to the end of the input or the first fault.
 use Rattle.std.specs.Prelude.{◌≡◌, ℕ, ◌<◌, ◌≤◌, ◌⊎◌, Bool, true, false, List, [], ◌∷◌, ◌++◌, length, take, map, Option, None, Some, IsSome, option_map}
 use Rattle.std.specs.List.{flat_map}
-use Rattle.uw_outside.specs.Faults.{Rose}
+use Rattle.uw_outside.specs.Faults.{HasCause, Rose}
 use Rattle.uw_outside.specs.Lives.{Spends}
 use Rattle.uw_outside.specs.Streams.{Inflow, Outflow, Takes, Gives}
 use Rattle.uw_packet.specs.Reads.{IsOver}
@@ -196,6 +196,16 @@ EndsBy led site e (Some faults.Memory) = ((IsSwallowed site.options e.rest × Ha
 EndsBy led site e (Some faults.TooMany) = (length e.rest ≡ 1) × IsAtMost e × HasAskedNothing led e
 EndsBy led site e (Some _) = ⊥
 
+-- a run ended by a failed read
+abbrev pub has_failed_to_read : Option RunFault → Bool
+has_failed_to_read (Some faults.ReadFault) = true
+has_failed_to_read _ = false
+
+-- a run ended by a failed write
+abbrev pub has_failed_to_write : Option RunFault → Bool
+has_failed_to_write (Some faults.WriteFault) = true
+has_failed_to_write _ = false
+
 -- what a run took from its source, wrote into its sink and was told by its clock, and how it ended, where `leads` says which asks lead from which state of the desk
 -- and the keeper to which, and a run goes from one state to another
 pub record PipeRun {S : Type 0} (leads : S → S → List Asking → ℕ → Type 0) (start last : S) (allowed : Option (List ℕ)) (site : Site) (src : Inflow) (snk : Outflow)
@@ -215,4 +225,7 @@ pub record PipeRun {S : Type 0} (leads : S → S → List Asking → ℕ → Typ
   pub written : Gives snk.before snk.now (frames_of turns ++ part)
   pub moments : gave (moments_of turns ++ late)
   pub briefs : told ≡ map brief_of turns
+  -- the first failed read or write is the end
+  pub reads : HasCause src.faults_before src.faults_now (has_failed_to_read fault)
+  pub writes : HasCause snk.faults_before snk.faults_now (has_failed_to_write fault)
   pub ending : EndsBy (leads behind last) site (record { src = src; snk = snk; allowed = left; still = still; count = length turns; rest = rest; part = part; late = late }) fault

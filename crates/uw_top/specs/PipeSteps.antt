@@ -47,6 +47,11 @@ pub record Goes (led : List Asking → ℕ → Type 0) (site : Site) (told told_
   pub moments : gave (turn.packet.moment ∷ [])
   pub briefs : told_now ≡ told ++ brief_of turn ∷ []
 
+-- the fault of a turn, if there is one
+abbrev pub fault_of_turn : Result Bool RunFault → Option RunFault
+fault_of_turn (Ok served) = None
+fault_of_turn (Err fault) = Some fault
+
 -- a turn served a packet, or found the source at its end, or was the last by a fault
 abbrev pub Turns : (List Asking → ℕ → Type 0) → Site → List Brief → List Brief → Inflow → Outflow → (List ℕ → Type 0) → Result Bool RunFault → Type 0
 Turns led site told told_now src snk gave (Ok true) = Goes led site told told_now src snk gave

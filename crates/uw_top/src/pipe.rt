@@ -1,13 +1,14 @@
 // The machine of `pipe`.
-ghost use Rattle.std.specs.Prelude.{◌≡◌, ◌<◌, ◌≤◌, ◌^◌, [], length};
+ghost use Rattle.std.specs.Prelude.{◌≡◌, ◌<◌, ◌^◌, [], length};
+ghost use Rattle.uw_outside.specs.Faults.{HasCause};
 ghost use Rattle.uw_outside.specs.Streams.{inflow, outflow};
 ghost use Rattle.uw_keeper.specs.Keeping.{keeping};
 ghost use Rattle.uw_rules.specs.PartNumbers.{AskPartsBelow};
 ghost use Rattle.uw_rules.specs.Compiled.{rules_of};
 ghost use Rattle.uw_chain.specs.KeptSearches.{FitTable};
 ghost use Rattle.uw_session.specs.Exchange.{HasParts, IsSiteOf, Site};
-ghost use Rattle.uw_top.specs.Pipe.{PipeRun, both_lead, unbounded};
-ghost use Rattle.uw_top.specs.PipeSteps.{LooksFurther, Turns, fault_of_serving};
+ghost use Rattle.uw_top.specs.Pipe.{PipeRun, both_lead, has_failed_to_read, has_failed_to_write, unbounded};
+ghost use Rattle.uw_top.specs.PipeSteps.{LooksFurther, Turns, fault_of_serving, fault_of_turn};
 
 use std::alloc::Global;
 use uw_chain::Searches;
@@ -65,8 +66,8 @@ fn turn<'c, S: Source, K: Sink, C: Clock, D: Desk, P: Keeper>(
         (C.gave clock.old clock.new) result }
     ensures fits { FitTable conf.now.routes searches.new }
     ensures parts { D.parts desk.new ≡ D.parts desk.old }
-    ensures src { S.faults src.old ≤ S.faults src.new }
-    ensures snk { K.faults snk.old ≤ K.faults snk.new }
+    ensures reads { HasCause (S.faults src.old) (S.faults src.new) (has_failed_to_read (fault_of_turn result)) }
+    ensures writes { HasCause (K.faults snk.old) (K.faults snk.new) (has_failed_to_write (fault_of_turn result)) }
 {
     let moment = clock.now();
     if briefs.reserve(1).is_err() {
@@ -99,6 +100,7 @@ fn turn<'c, S: Source, K: Sink, C: Clock, D: Desk, P: Keeper>(
 // Looks for one further byte, behind the last packet that a run may have.
 fn look_further<S: Source>(src: &mut S) -> Option<RunFault>
     ensures further { LooksFurther (inflow S.left S.ended S.faults src.old src.new) result }
+    ensures reads { HasCause (S.faults src.old) (S.faults src.new) (has_failed_to_read result) }
 {
     match fill(src, &mut [0]) {
         Filled::Whole => Some(RunFault::TooMany),

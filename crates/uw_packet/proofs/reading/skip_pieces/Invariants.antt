@@ -8,7 +8,7 @@ invariant-loop-skipped g l =
       within : l.skipped ≤ l.len;
       room : length l.piece ≡ 4096;
       taken : (bytes : List ℕ) × (length bytes ≡ l.skipped) × Takes (g.S.Source.left l.initial.src) (g.S.Source.left l.src) bytes;
-      later : g.S.Source.faults l.initial.src ≤ g.S.Source.faults l.src;
+      kept : g.S.Source.faults l.src ≡ g.S.Source.faults l.initial.src;
     }
 
 abbrev pub decreases-loop-skipped : goal.decreases-loop-skipped

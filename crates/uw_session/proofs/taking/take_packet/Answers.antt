@@ -24,7 +24,7 @@ returns-in-Err-read_block-clause-taken g c =
     in
     subst (λ (fault : TakeFault). TakesPacket options (inflow s.left s.ended s.faults c.args.src.now c.read_block.new.src) (Err fault)) (sym c.take_fault.ensures)
     (block_fault options s.left s.ended s.faults c.args.src.now c.take_header.new.src c.read_block.new.src c.in-Ok-Some.head c.in-Err-read_block.fault head.0 head.2
-    head.1 c.take_header.ensures.later c.in-Err-read_block.ensures.block)
+    head.1 c.take_header.ensures.cause.later c.in-Err-read_block.ensures.block)
 
 pub returns-in-Err-content_of-clause-taken : goal.returns-in-Err-content_of-clause-taken
 returns-in-Err-content_of-clause-taken g c =
@@ -63,7 +63,7 @@ returns-in-Err-skip_body-clause-taken g c =
     c.in-Ok-Some.ensures.taken
     in
     let block = c.in-Ok.ensures.block in
-    let later : s.faults c.args.src.now ≤ s.faults c.read_block.new.src = omega (arith, c.take_header.ensures.later, c.read_block.ensures.later) in
+    let later : s.faults c.args.src.now ≤ s.faults c.read_block.new.src = omega (arith, c.take_header.ensures.cause.later, c.read_block.ensures.cause.later) in
     subst (λ (fault : TakeFault). TakesPacket options (inflow s.left s.ended s.faults c.args.src.now c.skip_body.new.src) (Err fault))
     (sym c.take_fault-in-Err-skip_body.ensures)
     (body_fault options s.left s.ended s.faults c.args.src.now c.read_block.new.src c.skip_body.new.src c.in-Ok-Some.head c.in-Ok.block c.in-Ok-content_of.content

@@ -1,4 +1,4 @@
-use Rattle.std.proofs.Common.{◌∙◌, arith}
+use Rattle.std.proofs.Common.{◌∙◌, refl, arith}
 use Rattle.uw_keeper.specs.Keeping.{keeping}
 use Rattle.uw_chain.proofs.SpoolLemmas.{kept_none}
 use Rattle.uw_top.specs.Pipe.{both_lead}
@@ -8,13 +8,13 @@ use Rattle.uw_top.proofs.pipe.serve.Goals as goal
 pub returns-in-Ok-false : goal.returns-in-Ok-false
 returns-in-Ok-false g c = λ site is.
     let i = c.loop-served.invariant in
-    run_ends g.C.Clock.gave g.met.C.Clock.gave_more (both_lead g.D.Desk.leads) _ _ _ site _ _ _ _ _ _ _ _ _ _ _ _ _ _ _ _ _ _ c.loop-served.served _ i.src i.snk c.loop-served-test.true (i.so_far site is)
+    run_ends g.C.Clock.gave g.met.C.Clock.gave_more (both_lead g.D.Desk.leads) _ _ _ site _ _ _ _ _ _ _ _ _ _ _ _ _ _ _ _ _ _ c.loop-served.served _ i.src i.snk c.in-Ok-false.ensures.reads c.in-Ok-false.ensures.writes c.loop-served-test.true (i.so_far site is)
     (rw c.in-Ok-false.field-0-test at (c.in-Ok-false.ensures.turn site is))
 
 pub returns-in-Err : goal.returns-in-Err
 returns-in-Err g c = λ site is.
     let i = c.loop-served.invariant in
-    run_ends g.C.Clock.gave g.met.C.Clock.gave_more (both_lead g.D.Desk.leads) _ _ _ site _ _ _ _ _ _ _ _ _ _ _ _ _ _ _ _ _ _ c.loop-served.served _ i.src i.snk c.loop-served-test.true (i.so_far site is)
+    run_ends g.C.Clock.gave g.met.C.Clock.gave_more (both_lead g.D.Desk.leads) _ _ _ site _ _ _ _ _ _ _ _ _ _ _ _ _ _ _ _ _ _ c.loop-served.served _ i.src i.snk c.in-Err.ensures.reads c.in-Err.ensures.writes c.loop-served-test.true (i.so_far site is)
     (c.in-Err.ensures.turn site is)
 
 pub loop-served-preserved : goal.loop-served-preserved
@@ -25,12 +25,12 @@ loop-served-preserved g c =
       so_far = λ site is. one_more g.C.Clock.gave g.met.C.Clock.gave_more (both_lead g.D.Desk.leads) _ _ _ site _ _ _ _ _ _ _ _ _ _ _ _ _ _ _ _ _ (i.so_far site is) (rw c.in-Ok-true.field-0-test at (e.turn site is));
       fits = e.fits;
       parts = e.parts ∙ i.parts;
-      src = omega (arith, e.src, i.src);
-      snk = omega (arith, e.snk, i.snk);
+      src = e.reads.kept refl ∙ i.src;
+      snk = e.writes.kept refl ∙ i.snk;
     }
 
 pub returns : goal.returns
 returns g c = λ site is.
     let i = c.loop-served.invariant in
-    run_is_full g.C.Clock.gave (both_lead g.D.Desk.leads) _ _ site _ _ _ _ _ _ c.args.clock.now c.loop-served.clock _ _ _ _ _ _ _ c.loop-served.served i.src (omega arith)
+    run_is_full g.C.Clock.gave (both_lead g.D.Desk.leads) _ _ site _ _ _ _ _ _ c.args.clock.now c.loop-served.clock _ _ _ _ _ _ _ c.loop-served.served i.src i.snk c.look_further.ensures.reads (omega arith)
     (g.met.D.Desk.leads_none c.loop-served.desk, kept_none (keeping g.P.Keeper.rows g.P.Keeper.append_faults g.P.Keeper.other_faults c.loop-served.keep)) (i.so_far site is) c.look_further.ensures.further

@@ -1,4 +1,4 @@
-use Rattle.std.proofs.Common.{◌≡◌, ◌≤◌}
+use Rattle.std.proofs.Common.{◌≡◌}
 use Rattle.uw_keeper.specs.Keeping.{keeping}
 use Rattle.uw_chain.specs.KeptSearches.{FitTable}
 use Rattle.uw_session.specs.Exchange.{IsSiteOf, Site}
@@ -16,6 +16,6 @@ invariant-loop-served g l = record {
       (g.K.Sink.taken l.fn.snk) (g.K.Sink.taken l.snk) (g.C.Clock.gave l.fn.clock l.clock) l.served;
   fits : FitTable l.fn.conf.routes l.searches;
   parts : g.D.Desk.parts l.desk ≡ g.D.Desk.parts l.fn.desk;
-  src : g.S.Source.faults l.fn.src ≤ g.S.Source.faults l.src;
-  snk : g.K.Sink.faults l.fn.snk ≤ g.K.Sink.faults l.snk;
+  src : g.S.Source.faults l.src ≡ g.S.Source.faults l.fn.src;
+  snk : g.K.Sink.faults l.snk ≡ g.K.Sink.faults l.fn.snk;
 }

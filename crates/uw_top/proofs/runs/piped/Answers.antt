@@ -19,12 +19,12 @@ use Rattle.uw_top.proofs.runs.piped.Goals as goal
 pub returns-in-Err-clause-pipes : goal.returns-in-Err-clause-pipes
 returns-in-Err-clause-pipes g c = λ site is.
     let start : Lists × Keeping = (first_lists site.options, keeping g.P.Keeper.rows g.P.Keeper.append_faults g.P.Keeper.other_faults c.args.keep.now) in
-    rw c.refused.ensures (first_lists site.options, nothing_done g.C.Clock.gave g.met.C.Clock.gave_none (both_lead list_leads) start site _ _ c.args.clock.now _ _ _ _ _ (refl, kept_none start.1))
+    rw c.refused.ensures (first_lists site.options, nothing_done g.C.Clock.gave g.met.C.Clock.gave_none (both_lead list_leads) start site _ _ c.args.clock.now _ _ _ (refl, kept_none start.1))
 
 pub returns-in-Err-new-clause-pipes : goal.returns-in-Err-new-clause-pipes
 returns-in-Err-new-clause-pipes g c = λ site is.
     let start : Lists × Keeping = (first_lists site.options, keeping g.P.Keeper.rows g.P.Keeper.append_faults g.P.Keeper.other_faults c.args.keep.now) in
-    rw c.refused-in-Err-new.ensures (first_lists site.options, nothing_done g.C.Clock.gave g.met.C.Clock.gave_none (both_lead list_leads) start site _ _ c.args.clock.now _ _ _ _ _ (refl, kept_none start.1))
+    rw c.refused-in-Err-new.ensures (first_lists site.options, nothing_done g.C.Clock.gave g.met.C.Clock.gave_none (both_lead list_leads) start site _ _ c.args.clock.now _ _ _ (refl, kept_none start.1))
 
 pub serve-fault-requires-clause-known : goal.serve-fault-requires-clause-known
 serve-fault-requires-clause-known g c =
