@@ -25,7 +25,7 @@ loop-skipped-preserved g c =
       within = omega arith;
       room = length-overwritten _ _ c.loop-skipped.piece (omega arith) count ∙ room;
       taken = rw count at (taken_more _ _ _ c.loop-skipped.skipped (length c.fill.new.buf) c.fill.new.buf (omega arith) c.loop-skipped.invariant.taken c.in-Whole.ensures.bytes);
-      kept = omega arith;
+      kept = c.in-Whole.ensures.kept refl ∙ c.loop-skipped.invariant.kept;
     }
 
 pub returns-in-Short-clause-body : goal.returns-in-Short-clause-body
