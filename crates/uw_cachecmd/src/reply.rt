@@ -1,5 +1,5 @@
 // The replies to commands.
-ghost use Rattle.std.specs.Prelude.{◌≡◌, ◌++◌, ◌∷◌, List, ℕ, codes, IfOk, OnOk};
+ghost use Rattle.std.specs.Prelude.{◌≡◌, ◌++◌, ◌∷◌, List, ℕ, codes, IfOk, OnErr, OnOk};
 ghost use Rattle.std.specs.Fmt.{signed_decimal};
 ghost use Rattle.uw_packet.specs.Blocks.{array_of};
 ghost use Rattle.uw_cachecmd.specs.Replies.{reply_text, answer_text, value_text, refusal_reply, HasReply, in_twenty_digits, spool_text};
@@ -110,10 +110,12 @@ pub fn spool_reply(alloc: Global, answer: SpoolAnswer) -> Result<Bytes, Memory>
 
 /// Puts a number at the end in 20 digits, those in front zeros.
 pub fn put_in_twenty_digits(out: &mut Bytes, number: u64) -> Result<(), Memory>
-    ensures { OnOk result (out.new ≡ out.old ++ in_twenty_digits number) }
+    ensures ok { OnOk result (out.new ≡ out.old ++ in_twenty_digits number) }
+    ensures err { OnErr result (out.new ≡ out.old) }
 {
     let mut buffer = Buffer::new();
     let digits = buffer.format(number).as_bytes();
-    out.append(&ZEROS[digits.len()..])?;
-    out.append(digits)
+    let mut text = ZEROS;
+    text[ZEROS.len() - digits.len()..].copy_from_slice(digits);
+    out.append(&text)
 }
