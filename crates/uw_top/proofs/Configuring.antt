@@ -21,19 +21,19 @@ pub conf_given : (before after : ℕ) (said : ℕ → ℕ → List ℕ → Resul
     → ReadsText r text → Says before after (λ first last. said first last text) result → GivesConf before after said r result
 conf_given before after said r text (Ok conf) read says = (text, read, says)
 conf_given before after said r text (Err (faults.Conf fault)) read says = (text, read, says)
-conf_given before after said r text (Err faults.Memory) read says = ((text, read.taken, read.few), says)
+conf_given before after said r text (Err faults.Memory) read says = ((text, read.taken, read.few), says, read.kept)
 conf_given before after said r text (Err _) read says = absurd says
 
 -- a buffer of one byte more than a text may have was filled
-pub read_full : (r : Inflow) (text : List ℕ) → Takes r.before r.now (take (length text) text) → length text ≡ most_text_bytes + 1 → ReadsText r text
-read_full r text taken full =
-    record { taken = rw take-length at taken; few = omega (arith, full); whole = λ small. absurd (omega (arith, full, small)) }
+pub read_full : (r : Inflow) (text : List ℕ) → Takes r.before r.now (take (length text) text) → length text ≡ most_text_bytes + 1 → r.faults_now ≡ r.faults_before → ReadsText r text
+read_full r text taken full kept =
+    record { kept = kept; taken = rw take-length at taken; few = omega (arith, full); whole = λ small. absurd (omega (arith, full, small)) }
 
 -- the source ended before such a buffer was full
 pub read_short : (r : Inflow) (buffer : List ℕ) (n : ℕ) → Takes r.before r.now (take n buffer) → n < length buffer → length buffer ≡ most_text_bytes + 1 → IsOver r
-    → ReadsText r (take n buffer)
-read_short r buffer n taken short full over =
-    record { taken = taken; few = rw (length-take-le n buffer (omega (arith, short))) (omega (arith, short, full)); whole = λ small. over }
+    → r.faults_now ≡ r.faults_before → ReadsText r (take n buffer)
+read_short r buffer n taken short full over kept =
+    record { kept = kept; taken = taken; few = rw (length-take-le n buffer (omega (arith, short))) (omega (arith, short, full)); whole = λ small. over }
 
 -- nothing of a configuration was read
 pub nothing_read : (left : Option (List ℕ)) → (text : List ℕ) × Takes left left text × (length text ≤ most_text_bytes + 1)

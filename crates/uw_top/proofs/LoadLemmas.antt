@@ -7,6 +7,8 @@ use Rattle.std.specs.List.{list_all, AllByRecursion}
 use Rattle.std.proofs.lemmas.Bool.{le-ltb, lt-ltb}
 use Rattle.std.proofs.lemmas.Fmt.{length-decimal-le}
 use Rattle.uw_base.specs.declared.variables.Pair.{Pair}
+use Rattle.uw_outside.specs.Faults.{HasCause}
+use Rattle.uw_outside.proofs.Causes.{HasCause-none}
 use Rattle.uw_outside.specs.Streams.{Gives}
 use Rattle.uw_outside.proofs.Streams.{Gives-none}
 use Rattle.uw_packet.specs.Blocks.{sized, array_of, texts_of_pairs, AreShort, vars_read}
@@ -43,6 +45,7 @@ use Rattle.uw_session.specs.Exchange.{Exchange, IsAccepted, Site, ask_reply, ask
 use Rattle.uw_session.specs.Serving.{AnswersPacket}
 use Rattle.uw_top.specs.Pipe.{list_leads, unbounded}
 use Rattle.uw_top.specs.Replying.{Reply, replied, reply_of}
+use Rattle.uw_top.specs.Pipe.{has_failed_to_write}
 use Rattle.uw_top.specs.Load.{LoadEndsBy, LoadRun, block_for, figures_from, figures_text, head_for, next_number, no_figures, packet_for, packets_from, variables_for, with_reply}
 use Rattle.uw_top.specs.LoadSteps.{AnswersNumber, IsLoaded, WritesText, answer_behind, caches_from, number_after}
 use Rattle.uw_top.proofs.Packets.{caches_from-push}
@@ -336,6 +339,7 @@ load_stops gave gave_more conf first number next count held after f taken f0 clo
       few = omega (arith, s.count);
       told = gave_more clock mid later ms (moment ∷ []) s.told told;
       written = Gives-none taken;
+      writes = HasCause-none f0 f0 refl;
       ending = (omega (arith, s.count), refl, (moment, packet_for moment (next_number (number_after first ms)), refl, packets_from-push first ms moment, refused));
     }
 load_stops gave gave_more conf first number next count held after f taken f0 clock mid later moment served faults.Memory step more s told a = record {
@@ -346,6 +350,7 @@ load_stops gave gave_more conf first number next count held after f taken f0 clo
   few = omega (arith, s.count);
   told = gave_more clock mid later s.moments (moment ∷ []) s.told told;
   written = Gives-none taken;
+  writes = HasCause-none f0 f0 refl;
   ending = (refl, omega arith);
 }
 load_stops gave gave_more conf first number next count held after f taken f0 clock mid later moment served _ step more s told a = absurd a
@@ -353,10 +358,10 @@ load_stops gave gave_more conf first number next count held after f taken f0 clo
 -- all packets were answered, and this was written
 all_loaded : {Clk : Type 0} (gave : Clk → Clk → List ℕ → Type 0)
     (conf : Options) (first number count : ℕ) (held : List ListState) (f : Figures) (w : Outflow) (clock mid : Clk) (served : ℕ) (part : List ℕ) (fault : Option RunFault)
-    → served ≡ count → (s : IsLoaded conf first number held f (gave clock mid) served) → Gives w.before w.now part
+    → served ≡ count → (s : IsLoaded conf first number held f (gave clock mid) served) → Gives w.before w.now part → HasCause w.faults_before w.faults_now (has_failed_to_write fault)
     → LoadEndsBy conf (record { first = first; count = count; snk = w; moments = s.moments; late = []; part = part }) fault
     → LoadRun conf first count w (gave clock mid) fault
-all_loaded gave conf first number count held f w clock mid served part fault all s written ending = record {
+all_loaded gave conf first number count held f w clock mid served part fault all s written writes ending = record {
   moments = s.moments;
   late = [];
   part = part;
@@ -364,20 +369,21 @@ all_loaded gave conf first number count held f w clock mid served part fault all
   few = omega (arith, s.count);
   told = rw append-nil s.told;
   written = written;
+  writes = writes;
   ending = ending;
 }
 
 -- all packets were answered, and their figures were to be written
 pub load_ends : {Clk : Type 0} (gave : Clk → Clk → List ℕ → Type 0)
     (conf : Options) (first number count : ℕ) (held : List ListState) (f : Figures) (w : Outflow) (clock mid : Clk) (served : ℕ) (fault : Option RunFault)
-    → served ≡ count → IsLoaded conf first number held f (gave clock mid) served → WritesText (figures_text f) w fault
+    → served ≡ count → IsLoaded conf first number held f (gave clock mid) served → WritesText (figures_text f) w fault → HasCause w.faults_before w.faults_now (has_failed_to_write fault)
     → LoadRun conf first count w (gave clock mid) fault
-load_ends gave conf first number count held f w clock mid served None all s t =
-    all_loaded gave conf first number count held f w clock mid served (figures_text f) None all s t (s.count ∙ all, refl, ap figures_text s.figures)
-load_ends gave conf first number count held f w clock mid served (Some faults.WriteFault) all s t =
+load_ends gave conf first number count held f w clock mid served None all s t cause =
+    all_loaded gave conf first number count held f w clock mid served (figures_text f) None all s t cause (s.count ∙ all, refl, ap figures_text s.figures)
+load_ends gave conf first number count held f w clock mid served (Some faults.WriteFault) all s t cause =
     let text = ap figures_text s.figures in
-    all_loaded gave conf first number count held f w clock mid served (take t.1.0 (figures_text f)) (Some faults.WriteFault) all s t.1.2
+    all_loaded gave conf first number count held f w clock mid served (take t.1.0 (figures_text f)) (Some faults.WriteFault) all s t.1.2 cause
     (t.0, s.count ∙ all, refl, (t.1.0, subst (λ (b : List ℕ). t.1.0 < length b) text t.1.1, ap (λ (b : List ℕ). take t.1.0 b) text))
-load_ends gave conf first number count held f w clock mid served (Some faults.Memory) all s t =
-    all_loaded gave conf first number count held f w clock mid served [] (Some faults.Memory) all s t (refl, omega arith)
-load_ends gave conf first number count held f w clock mid served (Some _) all s t = absurd t
+load_ends gave conf first number count held f w clock mid served (Some faults.Memory) all s t cause =
+    all_loaded gave conf first number count held f w clock mid served [] (Some faults.Memory) all s t cause (refl, omega arith)
+load_ends gave conf first number count held f w clock mid served (Some _) all s t cause = absurd t

@@ -1,6 +1,8 @@
 -- The rounds of the command `spool`, one after the other.
 use Rattle.std.proofs.Common.{◌≡◌, ℕ, suc, ◌+◌, ◌<◌, ◌≤◌, List, [], ◌∷◌, ◌++◌, length, take, Option, None, Some, Result, Ok, Err, refl, sym, ap, ◌∙◌, inl, inr, arith, append_assoc, subst}
 use Rattle.std.proofs.lemmas.List.{append-nil, length-append}
+use Rattle.uw_outside.specs.Faults.{HasCause}
+use Rattle.uw_outside.proofs.Causes.{HasCause-none, HasCause-then}
 use Rattle.uw_outside.specs.Streams.{Gives, Outflow}
 use Rattle.uw_outside.proofs.Streams.{Gives-append, Gives-none}
 use Rattle.uw_keeper.specs.Keeping.{Keeping}
@@ -13,6 +15,7 @@ use Rattle.uw_conf.specs.declared.conf.Conf.{Conf}
 use Rattle.uw_ends.specs.declared.ends.RunFault.{RunFault}
 use Rattle.uw_ends.specs.declared.ends.RunFault.TheVariants as faults
 use Rattle.uw_session.specs.Exchange.{IsSiteOf, Site}
+use Rattle.uw_top.specs.Pipe.{has_failed_to_write}
 use Rattle.uw_top.specs.Spool.{EndsRounds, RoundsLead, SpoolEndsBy, SpoolRun, round_of, round_text, rounds_text, task_rules_of, undying}
 use Rattle.uw_top.specs.SpoolSteps.{RoundsRun, RoundsSoFar, RunsRound}
 use Rattle.uw_top.proofs.Machine.{rose_since}
@@ -77,16 +80,16 @@ ends_later taken between written f0 f1 f2 spooler (Err (rounds.Memory report)) p
 
 -- a round that was the last
 pub rounds_end : {S : Type 0} → (leads : S → S → List Asking → ℕ → Type 0) (site : Site) (now : ℕ) (start held after : S) (kept still left : Keeping)
-    (taken between written : Option (List ℕ)) (f0 f1 f2 spooler : ℕ) (fault : RunFault) → f0 ≤ f1 → spooler < site.options.spoolers
+    (taken between written : Option (List ℕ)) (f0 f1 f2 spooler : ℕ) (fault : RunFault) → f1 ≡ f0 → HasCause f1 f2 (has_failed_to_write (Some fault)) → spooler < site.options.spoolers
     → RoundsSoFar leads site now start held kept still taken between spooler
     → RunsRound leads site now spooler held after still left (record { before = between; now = written; faults_before = f1; faults_now = f2 }) (Some fault)
     → RoundsRun leads site now start after kept left (record { before = taken; now = written; faults_before = f0; faults_now = f2 }) (Some fault)
-rounds_end {S = S} leads site now start held after kept still left taken between written f0 f1 f2 spooler fault lf few s r =
+rounds_end {S = S} leads site now start held after kept still left taken between written f0 f1 f2 spooler fault lf cause few s r =
     let last = r.2 in
     let snk : Outflow = record { before = taken; now = written; faults_before = f0; faults_now = f2 } in
     let Last : ℕ → Type 0 = λ n. (n < site.options.spoolers)
     × ((result : Result (List TaskLine) RoundFault) × Rounds (round_of site now n) (undying leads held after still left) result × EndsRounds n result snk last.0 fault) in
-    let here : Last spooler = (few, (r.0, r.1, ends_later taken between written f0 f1 f2 spooler r.0 last.0 fault lf last.1)) in
+    let here : Last spooler = (few, (r.0, r.1, ends_later taken between written f0 f1 f2 spooler r.0 last.0 fault (omega (arith, lf)) last.1)) in
     record {
       reports = s.reports;
       behind = held;
@@ -94,6 +97,7 @@ rounds_end {S = S} leads site now start held after kept still left taken between
       part = last.0;
       passed = s.passed;
       written = Gives-append taken between written (rounds_text 0 s.reports) last.0 s.written last.2;
+      writes = HasCause-then f0 f1 f2 (has_failed_to_write (Some fault)) lf cause;
       ending = inl (subst Last (sym s.many) here);
     }
 
@@ -110,12 +114,12 @@ of_site leads conf site now spooler before after kept left result is round =
 pub spool_run : {S : Type 0} → (leads : S → S → List Asking → ℕ → Type 0) (site : Site) (now : ℕ) (start last : S) (kept left : Keeping) (snk : Outflow) (gave : List ℕ → Type 0)
     (fault : Option RunFault) → gave (now ∷ []) → RoundsRun leads site now start last kept left snk fault → SpoolRun leads start last kept left site snk gave fault
 spool_run leads site now start last kept left snk gave fault told r =
-    record { now = now; reports = r.reports; behind = r.behind; still = r.still; part = r.part; told = told; passed = r.passed; written = r.written; ending = r.ending }
+    record { now = now; reports = r.reports; behind = r.behind; still = r.still; part = r.part; told = told; passed = r.passed; written = r.written; writes = r.writes; ending = r.ending }
 
 -- no memory before the first round
-pub no_round : {S : Type 0} → (leads : S → S → List Asking → ℕ → Type 0) (site : Site) (now : ℕ) (start : S) (kept : Keeping) (taken : Option (List ℕ)) (f0 f1 : ℕ) (gave : List ℕ → Type 0)
-    → gave (now ∷ []) → SpoolRun leads start start kept kept site (record { before = taken; now = taken; faults_before = f0; faults_now = f1 }) gave (Some faults.Memory)
-no_round leads site now start kept taken f0 f1 gave told = record {
+pub no_round : {S : Type 0} → (leads : S → S → List Asking → ℕ → Type 0) (site : Site) (now : ℕ) (start : S) (kept : Keeping) (taken : Option (List ℕ)) (f0 : ℕ) (gave : List ℕ → Type 0)
+    → gave (now ∷ []) → SpoolRun leads start start kept kept site (record { before = taken; now = taken; faults_before = f0; faults_now = f0 }) gave (Some faults.Memory)
+no_round leads site now start kept taken f0 gave told = record {
   now = now;
   reports = [];
   behind = start;
@@ -124,5 +128,22 @@ no_round leads site now start kept taken f0 f1 gave told = record {
   told = told;
   passed = (refl, refl);
   written = Gives-none taken;
+  writes = HasCause-none f0 f0 refl;
   ending = inr (refl, refl, refl, refl);
+}
+
+-- the rounds of all spoolers
+pub rounds_over : {S : Type 0} → (leads : S → S → List Asking → ℕ → Type 0) (site : Site) (now : ℕ) (start held : S) (kept still : Keeping)
+    (taken written : Option (List ℕ)) (f0 f1 spooler : ℕ) → f1 ≡ f0 → spooler ≡ site.options.spoolers
+    → RoundsSoFar leads site now start held kept still taken written spooler
+    → RoundsRun leads site now start held kept still (record { before = taken; now = written; faults_before = f0; faults_now = f1 }) None
+rounds_over leads site now start held kept still taken written f0 f1 spooler lf all s = record {
+  reports = s.reports;
+  behind = held;
+  still = still;
+  part = [];
+  passed = s.passed;
+  written = rw append-nil s.written;
+  writes = HasCause-none f0 f1 lf;
+  ending = (s.many ∙ all, refl, refl, refl);
 }

@@ -3,7 +3,7 @@ use Rattle.std.specs.Prelude.{◌≡◌, ℕ, ◌+◌, ◌*◌, ◌/◌, ◌%◌
 use Rattle.std.specs.List.{AllByRecursion}
 use Rattle.std.specs.Fmt.{decimal}
 use Rattle.uw_base.specs.declared.variables.Pair.{Pair}
-use Rattle.uw_outside.specs.Faults.{Rose}
+use Rattle.uw_outside.specs.Faults.{HasCause, Rose}
 use Rattle.uw_outside.specs.Streams.{Gives}
 use Rattle.uw_packet.specs.declared.packet.Header.{Header}
 use Rattle.uw_packet.specs.Blocks.{array_of, texts_of_pairs}
@@ -17,7 +17,7 @@ use Rattle.uw_ends.specs.declared.ends.RunFault.TheVariants as faults
 use Rattle.uw_top.specs.declared.load.Figures.{Figures}
 use Rattle.uw_outside.specs.Streams.{Outflow}
 use Rattle.uw_session.specs.Exchange.{Exchange, IsAccepted, header_refusal}
-use Rattle.uw_top.specs.Pipe.{bad_packet_of}
+use Rattle.uw_top.specs.Pipe.{bad_packet_of, has_failed_to_write}
 use Rattle.uw_top.specs.Replying.{reply_of}
 
 -- the next number of the generator
@@ -128,4 +128,6 @@ pub record LoadRun (conf : Options) (first count : ℕ) (snk : Outflow) (gave : 
   pub few : length moments ≤ count
   pub told : gave (moments ++ late)
   pub written : Gives snk.before snk.now part
+  -- the first failed write is the end
+  pub writes : HasCause snk.faults_before snk.faults_now (has_failed_to_write fault)
   pub ending : LoadEndsBy conf (record { first = first; count = count; snk = snk; moments = moments; late = late; part = part }) fault

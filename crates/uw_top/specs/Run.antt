@@ -45,10 +45,11 @@ IsSaidWithACache before after text (Ok conf) = IsSaid before after text (Ok conf
 IsSaidWithACache before after text (Err fault) =
     IsSaid before after text (Err fault) ⊎ ((conf : Conf) × IsSaid before after text (Ok conf) × (length conf.caches ≡ 0) × (fault ≡ refused_at 0 kinds.Missing))
 
--- these bytes are all that was read of a configuration's text: up to its end, or up to the first byte that is too many
+-- these bytes are all that was read of a configuration's text: up to its end, or up to the first byte that is too many; and no read failed
 pub record ReadsText (r : Inflow) (text : List ℕ) : Type 0 where
   pub taken : Takes r.before r.now text
   pub few : length text ≤ most_text_bytes + 1
+  pub kept : r.faults_now ≡ r.faults_before
   pub whole : length text ≤ most_text_bytes → IsOver r
 
 -- why a command did not begin: its configuration is refused, or could not be read, or there was no memory; the maker of patterns had these counts of faults before and after
@@ -56,7 +57,7 @@ abbrev pub IsNotBegun : (before after : ℕ) → (ℕ → ℕ → List ℕ → R
 IsNotBegun before after said r (Some (faults.Conf fault)) = (text : List ℕ) × ReadsText r text × said before after text (Err fault)
 IsNotBegun before after said r (Some faults.ReadFault) =
     Rose r.faults_before r.faults_now × ((text : List ℕ) × Takes r.before r.now text × (length text ≤ most_text_bytes)) × (after ≡ before)
-IsNotBegun before after said r (Some faults.Memory) = ((text : List ℕ) × Takes r.before r.now text × (length text ≤ most_text_bytes + 1)) × (before ≤ after)
+IsNotBegun before after said r (Some faults.Memory) = ((text : List ℕ) × Takes r.before r.now text × (length text ≤ most_text_bytes + 1)) × (before ≤ after) × (r.faults_now ≡ r.faults_before)
 IsNotBegun before after said r _ = ⊥
 
 -- how the rules of a table of lines are meant: with the names of the caches, and the places of the table's labels

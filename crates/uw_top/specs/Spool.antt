@@ -2,7 +2,7 @@
 use Rattle.std.specs.Prelude.{◌≡◌, ◌⊎◌, ℕ, ◌+◌, ◌<◌, Bool, true, false, List, [], ◌∷◌, ◌++◌, length, take, filter, codes, Option, None, Some, Result, Ok, Err}
 use Rattle.std.specs.Fmt.{decimal, signed_decimal}
 use Rattle.std.specs.List.{flat_map}
-use Rattle.uw_outside.specs.Faults.{Rose}
+use Rattle.uw_outside.specs.Faults.{HasCause, Rose}
 use Rattle.uw_outside.specs.Streams.{Outflow, Gives}
 use Rattle.uw_keeper.specs.Keeping.{Keeping}
 use Rattle.uw_model.specs.Asks.{Asking}
@@ -16,7 +16,7 @@ use Rattle.uw_spool.specs.Rounds.{Round, RoundFlow, Rounds, TaskRules}
 use Rattle.uw_ends.specs.declared.ends.RunFault.{RunFault}
 use Rattle.uw_ends.specs.declared.ends.RunFault.TheVariants as faults
 use Rattle.uw_session.specs.Exchange.{Site}
-use Rattle.uw_top.specs.Pipe.{unbounded}
+use Rattle.uw_top.specs.Pipe.{has_failed_to_write, unbounded}
 
 -- ---- lines
 
@@ -111,4 +111,6 @@ pub record SpoolRun {S : Type 0} (leads : S → S → List Asking → ℕ → Ty
   pub told : gave (now ∷ [])
   pub passed : RoundsLead leads site now 0 start kept reports behind still
   pub written : Gives snk.before snk.now (rounds_text 0 reports ++ part)
+  -- the first failed write is the end
+  pub writes : HasCause snk.faults_before snk.faults_now (has_failed_to_write fault)
   pub ending : SpoolEndsBy leads site now (length reports) behind still last left snk part fault

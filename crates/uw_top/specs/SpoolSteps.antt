@@ -1,6 +1,6 @@
 -- The steps of the command `spool`.
 use Rattle.std.specs.Prelude.{◌≡◌, ℕ, ◌<◌, List, [], ◌++◌, length, take, Option, None, Some, Result, Ok, Err}
-use Rattle.uw_outside.specs.Faults.{Rose}
+use Rattle.uw_outside.specs.Faults.{HasCause, Rose}
 use Rattle.uw_outside.specs.Streams.{Outflow, Gives}
 use Rattle.uw_keeper.specs.Keeping.{Keeping}
 use Rattle.uw_model.specs.Asks.{Asking}
@@ -10,6 +10,7 @@ use Rattle.uw_spool.specs.Rounds.{Rounds}
 use Rattle.uw_ends.specs.declared.ends.RunFault.{RunFault}
 use Rattle.uw_ends.specs.declared.ends.RunFault.TheVariants as faults
 use Rattle.uw_session.specs.Exchange.{Site}
+use Rattle.uw_top.specs.Pipe.{has_failed_to_write}
 use Rattle.uw_top.specs.Spool.{EndsRounds, RoundsLead, SpoolEndsBy, round_of, round_text, rounds_text, undying}
 
 -- a text was written whole, or a write failed and so much of it had been written
@@ -50,4 +51,5 @@ pub record RoundsRun {S : Type 0} (leads : S → S → List Asking → ℕ → T
   pub part : List ℕ
   pub passed : RoundsLead leads site now 0 start kept reports behind still
   pub written : Gives snk.before snk.now (rounds_text 0 reports ++ part)
+  pub writes : HasCause snk.faults_before snk.faults_now (has_failed_to_write fault)
   pub ending : SpoolEndsBy leads site now (length reports) behind still last left snk part fault

@@ -1,6 +1,7 @@
 // The command `load`: packets that a generator makes, and the figures of their replies.
 ghost use Rattle.std.specs.Prelude.{◌≡◌, ◌<◌, ◌≤◌, ◌^◌, ◌++◌, length, option_copied, IfOk, OnOk};
 ghost use Rattle.std.specs.Fmt.{decimal};
+ghost use Rattle.uw_outside.specs.Faults.{HasCause};
 ghost use Rattle.uw_outside.specs.Streams.{outflow};
 ghost use Rattle.uw_model.specs.Caches.{empty_caches};
 ghost use Rattle.uw_rules.specs.PartNumbers.{AskPartsBelow};
@@ -10,6 +11,7 @@ ghost use Rattle.uw_conf.specs.Given.{parts_in};
 ghost use Rattle.uw_conf.specs.Sound.{ArePartsOfSite};
 ghost use Rattle.uw_session.specs.Exchange.{HasParts, IsSiteOf, Site};
 ghost use Rattle.uw_top.specs.Load.{LoadRun, block_for, command_for, figure_line, figures_text, head_for, next_number, no_figures, packet_for, variables_for, with_reply};
+ghost use Rattle.uw_top.specs.Pipe.{has_failed_to_write};
 ghost use Rattle.uw_top.specs.LoadSteps.{AnswersNumber, AreCounted, CanCount, WritesText, answer_behind, parts_of_lists};
 
 use itoa::Buffer;
@@ -276,7 +278,8 @@ fn load_with<'c, K: Sink, C: Clock>(
 
 // Writes the lines of figures.
 fn write_figures<K: Sink>(alloc: Global, figures: &Figures, snk: &mut K) -> Option<RunFault>
-    ensures { WritesText (figures_text figures.now) (outflow K.taken K.faults snk.old snk.new) result }
+    ensures written { WritesText (figures_text figures.now) (outflow K.taken K.faults snk.old snk.new) result }
+    ensures cause { HasCause (K.faults snk.old) (K.faults snk.new) (has_failed_to_write result) }
 {
     let text = match figures.text(alloc) {
         Ok(text) => text,

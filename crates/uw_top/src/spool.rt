@@ -1,5 +1,6 @@
 // The rounds of the command `spool`.
-ghost use Rattle.std.specs.Prelude.{◌≡◌, ◌≤◌, ◌<◌, ◌++◌, ℕ, Ok, Err, IfOk, OnOk};
+ghost use Rattle.std.specs.Prelude.{◌≡◌, ◌<◌, ◌++◌, ℕ, Some, Ok, Err, IfOk, OnOk};
+ghost use Rattle.uw_outside.specs.Faults.{HasCause};
 ghost use Rattle.uw_outside.specs.Streams.{outflow};
 ghost use Rattle.uw_keeper.specs.Keeping.{keeping};
 ghost use Rattle.uw_rules.specs.Compiled.{rules_of};
@@ -10,7 +11,7 @@ ghost use Rattle.uw_conf.specs.Sound.{ArePartsOfSite};
 ghost use Rattle.uw_model.specs.Lists.{Lists};
 ghost use Rattle.uw_spool.specs.declared.report.RoundFault.TheVariants as rounds;
 ghost use Rattle.uw_session.specs.Exchange.{IsSiteOf, Site};
-ghost use Rattle.uw_top.specs.Pipe.{first_lists, list_leads};
+ghost use Rattle.uw_top.specs.Pipe.{first_lists, has_failed_to_write, list_leads};
 ghost use Rattle.uw_top.specs.Spool.{SpoolRun, gone_rows, outcome_text, report_text, round_text, task_line_text};
 ghost use Rattle.uw_top.specs.SpoolSteps.{RoundsRun, RunsRound, WritesLast, WritesRound, WritesText};
 
@@ -98,7 +99,7 @@ fn report_text(alloc: Global, report: &RoundReport) -> Result<Bytes, Memory>
 // Writes a text.
 fn write_text<K: Sink>(text: &Bytes, snk: &mut K) -> Option<RunFault>
     ensures written { WritesText (outflow K.taken K.faults snk.old snk.new) text.now result }
-    ensures later { K.faults snk.old ≤ K.faults snk.new }
+    ensures cause { HasCause (K.faults snk.old) (K.faults snk.new) (has_failed_to_write result) }
 {
     match put_all(snk, text.as_slice()) {
         Ok(()) => None,
@@ -114,7 +115,7 @@ fn write_round<K: Sink>(
     snk: &mut K,
 ) -> Option<RunFault>
     ensures written { WritesRound spooler report.now (outflow K.taken K.faults snk.old snk.new) result }
-    ensures later { K.faults snk.old ≤ K.faults snk.new }
+    ensures cause { HasCause (K.faults snk.old) (K.faults snk.new) (has_failed_to_write result) }
 {
     match round_text(alloc, spooler, report) {
         Ok(text) => write_text(&text, snk),
@@ -125,7 +126,7 @@ fn write_round<K: Sink>(
 // Writes the lines of a round in which the keeper failed.
 fn write_short_round<K: Sink>(alloc: Global, report: &RoundReport, snk: &mut K) -> RunFault
     ensures written { (spooler : ℕ) → WritesLast spooler (Err (rounds.KeeperFault report.now)) (outflow K.taken K.faults snk.old snk.new) result }
-    ensures later { K.faults snk.old ≤ K.faults snk.new }
+    ensures cause { HasCause (K.faults snk.old) (K.faults snk.new) (has_failed_to_write (Some result)) }
 {
     match report_text(alloc, report) {
         Ok(text) => match write_text(&text, snk) {
@@ -139,7 +140,7 @@ fn write_short_round<K: Sink>(alloc: Global, report: &RoundReport, snk: &mut K) 
 // Writes what is told of a round that did not come to its end.
 fn write_fault<K: Sink>(alloc: Global, fault: RoundFault, snk: &mut K) -> RunFault
     ensures written { (spooler : ℕ) → WritesLast spooler (Err fault) (outflow K.taken K.faults snk.old snk.new) result }
-    ensures later { K.faults snk.old ≤ K.faults snk.new }
+    ensures cause { HasCause (K.faults snk.old) (K.faults snk.new) (has_failed_to_write (Some result)) }
 {
     match fault {
         RoundFault::KeeperFault { done } => write_short_round(alloc, &done, snk),
@@ -167,7 +168,7 @@ fn run_round<'c, K: Sink, D: Desk, P: Keeper>(
         (outflow K.taken K.faults snk.old snk.new) result }
     ensures fits { FitTable conf.now.tasks searches.new }
     ensures parts { D.parts desk.new ≡ D.parts desk.old }
-    ensures later { K.faults snk.old ≤ K.faults snk.new }
+    ensures cause { HasCause (K.faults snk.old) (K.faults snk.new) (has_failed_to_write result) }
 {
     let life = &mut Immortal::new();
     let spoolers = conf.spoolers;

@@ -50,4 +50,4 @@ returns g c = λ site is.
       faults_before = g.K.Sink.faults c.args.snk.now;
       faults_now = g.K.Sink.faults c.write_figures.new.snk;
     })
-    _ now.clock now.served _ (omega arith) (now.invariant.loaded site is) c.write_figures.ensures
+    _ now.clock now.served _ (omega arith) (now.invariant.loaded site is) c.write_figures.ensures.written c.write_figures.ensures.cause

@@ -14,15 +14,15 @@ use Rattle.uw_top.proofs.runs.run.Goals as goal
 -- there was no memory to read the words
 pub returns-in-Err-Memory-clause-loads : goal.returns-in-Err-Memory-clause-loads
 returns-in-Err-Memory-clause-loads g c =
-    λ first count words. rw c.refused-in-Err-Memory.ensures (inr ((nothing_read _, omega arith), (refl, refl, refl, refl, refl)))
+    λ first count words. rw c.refused-in-Err-Memory.ensures (inr ((nothing_read _, omega arith, refl), (refl, refl, refl, refl, refl)))
 
 pub returns-in-Err-Memory-clause-pipes : goal.returns-in-Err-Memory-clause-pipes
 returns-in-Err-Memory-clause-pipes g c =
-    λ words. rw c.refused-in-Err-Memory.ensures (inr ((nothing_read _, omega arith), (refl, refl, refl, refl, refl)))
+    λ words. rw c.refused-in-Err-Memory.ensures (inr ((nothing_read _, omega arith, refl), (refl, refl, refl, refl, refl)))
 
 pub returns-in-Err-Memory-clause-spools : goal.returns-in-Err-Memory-clause-spools
 returns-in-Err-Memory-clause-spools g c =
-    λ words. rw c.refused-in-Err-Memory.ensures (inr ((nothing_read _, omega arith), (refl, refl, refl, refl, refl)))
+    λ words. rw c.refused-in-Err-Memory.ensures (inr ((nothing_read _, omega arith, refl), (refl, refl, refl, refl, refl)))
 
 pub returns-in-Ok-Spool-clause-spools : goal.returns-in-Ok-Spool-clause-spools
 returns-in-Ok-Spool-clause-spools g c = λ words.

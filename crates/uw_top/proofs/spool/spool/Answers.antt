@@ -1,4 +1,4 @@
-use Rattle.std.proofs.Common.{◌≡◌, ◌<◌, ◌∙◌, ap, subst, arith}
+use Rattle.std.proofs.Common.{◌≡◌, ◌<◌, ◌∙◌, ap, refl, subst, arith}
 use Rattle.uw_top.proofs.SpoolLemmas.{one_round_more, rounds_end}
 use Rattle.uw_top.proofs.spool.spool.Goals as goal
 
@@ -6,7 +6,7 @@ pub returns-in-Some-clause-spools : goal.returns-in-Some-clause-spools
 returns-in-Some-clause-spools g c = λ site is.
     let i = c.loop-spooler.invariant in
     let few : c.loop-spooler.spooler < site.options.spoolers = omega (arith, ap (λ o. o.spoolers) is.options, c.loop-spooler-test.true) in
-    rounds_end g.D.Desk.leads site c.args.now _ _ _ _ _ _ _ _ _ _ _ _ c.loop-spooler.spooler c.in-Some.fault i.later few (i.so_far site is) (c.in-Some.ensures.runs site is)
+    rounds_end g.D.Desk.leads site c.args.now _ _ _ _ _ _ _ _ _ _ _ _ c.loop-spooler.spooler c.in-Some.fault i.kept (rw c.in-Some.is at c.in-Some.ensures.cause) few (i.so_far site is) (c.in-Some.ensures.runs site is)
 
 pub loop-spooler-preserved : goal.loop-spooler-preserved
 loop-spooler-preserved g c =
@@ -16,5 +16,5 @@ loop-spooler-preserved g c =
       so_far = λ site is. one_round_more g.D.Desk.leads site c.args.now _ _ _ _ _ _ _ _ _ 0 0 c.loop-spooler.spooler (i.so_far site is) (e.runs site is);
       fits = e.fits;
       parts = e.parts ∙ i.parts;
-      later = omega (arith, e.later, i.later);
+      kept = e.cause.kept refl ∙ i.kept;
     }

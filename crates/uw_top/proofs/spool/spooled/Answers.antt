@@ -16,14 +16,14 @@ pub returns-in-Err : goal.returns-in-Err
 returns-in-Err g c = record {
   spools = λ site is.
       let kept = keeping g.P.Keeper.rows g.P.Keeper.append_faults g.P.Keeper.other_faults c.args.keep.now in
-      (first_lists site.options, no_round list_leads site c.now-now.result (first_lists site.options) kept _ _ _ _ c.now-now.ensures);
+      (first_lists site.options, no_round list_leads site c.now-now.result (first_lists site.options) kept _ _ _ c.now-now.ensures);
 }
 
 pub returns-in-Err-new : goal.returns-in-Err-new
 returns-in-Err-new g c = record {
   spools = λ site is.
       let kept = keeping g.P.Keeper.rows g.P.Keeper.append_faults g.P.Keeper.other_faults c.args.keep.now in
-      (first_lists site.options, no_round list_leads site c.now-now.result (first_lists site.options) kept _ _ _ _ c.now-now.ensures);
+      (first_lists site.options, no_round list_leads site c.now-now.result (first_lists site.options) kept _ _ _ c.now-now.ensures);
 }
 
 pub spool-requires-clause-known : goal.spool-requires-clause-known
