@@ -51,6 +51,7 @@ pub fn ask<D: Desk, P: Keeper, L: Life>(
 }
 
 // Makes an ask of a desk.
+#[tactic(auto, using(crate::proofs::SpoolLemmas::part_of_desk))]
 fn ask_desk<D: Desk, L: Life>(
     alloc: Global,
     ask: Ask,
