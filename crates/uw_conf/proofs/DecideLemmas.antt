@@ -25,7 +25,7 @@ use Rattle.uw_conf.specs.declared.conf.ConfKind.TheVariants as kinds
 use Rattle.uw_conf.specs.declared.conf.Options.{Options}
 use Rattle.uw_conf.specs.declared.reading.Walk.{Walk}
 use Rattle.uw_conf.specs.Configuration.{configuration_of, first_refused_option, least_refused, lesser_fault, most_text_bytes, said_by, unless_fault}
-use Rattle.uw_conf.specs.Given.{HasTableOf, IsPatternRefused, ReadsConf}
+use Rattle.uw_conf.specs.Given.{HasTableOf, ReadsConf}
 use Rattle.uw_conf.specs.DecidingSteps.{Decides, ReadsLines, ReadsTable, fault_in, least_found, of_fault}
 use Rattle.uw_conf.specs.Reading.{ReadSoFar, blank_reading, reading_after}
 use Rattle.uw_conf.specs.ReadingSteps.{WalksOver}
@@ -147,7 +147,7 @@ module _ (lines : List (List ℕ)) (before after first last : ℕ) (early : befo
   -- what the reading of a table found
   pub table_stands : (result : Result RuleTable ConfFault) → ReadsTable site rules first last (Ok result)
       → Stands (IsCounted lines before after) (fault_in result) (first_refused_in table lines)
-  table_stands (Ok read) h = none_refused site rules 0 rules (from_start site rules (length rules) h.0)
+  table_stands (Ok read) h = none_refused site rules 0 rules (from_start site rules (length rules) h.0.0)
   table_stands (Err fault) h = table_fault fault h.0 h.1 h.2
 
 -- ---- the least of two faults
@@ -240,10 +240,10 @@ module _ (lines : List (List ℕ)) (before after : ℕ) where
   below_said line (Some fault) options h = h
 
   -- the found fault is that of the lines
-  refused_lines : (fault : ConfFault) → Stands (IsCounted lines before after) (Some fault) (least_refused lines)
-      → (said_by lines ≡ Err fault) ⊎ (IsPatternRefused lines fault × Rose before after)
-  refused_lines fault (inl same) = inl (ap (λ (f : Option ConfFault). unless_fault f (reading_after blank_reading lines).conf) same)
-  refused_lines fault (inr counted) =
+  refused_lines : (fault : ConfFault) → before ≤ after → Stands (IsCounted lines before after) (Some fault) (least_refused lines)
+      → ReadsLines lines before after (Err (conf_errors.Refused fault))
+  refused_lines fault later (inl same) = inl (ap (λ (f : Option ConfFault). unless_fault f (reading_after blank_reading lines).conf) same, later)
+  refused_lines fault later (inr counted) =
       inr (
         record {
           table = counted.0.table;
@@ -274,8 +274,14 @@ module _ (lines : List (List ℕ)) (before after : ℕ) where
   -- the table that was read is that of the lines
   has_table : (table : Table) (first last : ℕ) (rules : RuleTable) (result : Result RuleTable ConfFault) → result ≡ Ok rules
       → ReadsTable (site_names_of lines) (rule_lines_of table lines) first last (Ok result) → HasTableOf table lines rules
-  has_table table first last rules (Ok read) same h = let is : read ≡ rules = cc in subst (HasTableOf table lines) is h.1
+  has_table table first last rules (Ok read) same h = let is : read ≡ rules = cc in subst (HasTableOf table lines) is h.0.1
   has_table table first last rules (Err fault) same h = absurd (cc)
+
+  -- where a table was read, the maker of patterns refused none
+  table_kept : (table : Table) (first last : ℕ) (rules : RuleTable) (result : Result RuleTable ConfFault) → result ≡ Ok rules
+      → ReadsTable (site_names_of lines) (rule_lines_of table lines) first last (Ok result) → last ≡ first
+  table_kept table first last rules (Ok read) same h = h.1
+  table_kept table first last rules (Err fault) same h = absurd (cc)
 
   -- lines are read, behind a walk and the readings of both tables
   reads_lines : (walk : Walk) (routes tasks : Result RuleTable ConfFault) (middle : ℕ) (result : Result Conf ConfFault) → before ≤ middle → middle ≤ after
@@ -290,9 +296,10 @@ module _ (lines : List (List ℕ)) (before after : ℕ) where
         ap (λ (f : Option ConfFault). unless_fault f (reading_after blank_reading lines).conf) none
             ∙ ap (λ (r : ReadSoFar). Ok r.conf) (sym over.reading) ∙ ap (λ (o : Options). Ok o) (sym says.1),
         (has_table tables.Requests before middle conf.routes routes says.2 h, has_table tables.Tasks middle after conf.tasks tasks says.3 k),
+        table_kept tables.Tasks middle after conf.tasks tasks says.3 k ∙ table_kept tables.Requests before middle conf.routes routes says.2 h,
       )
   reads_lines walk routes tasks middle (Err fault) early late over h k says =
-      refused_lines fault
+      refused_lines fault (omega arith)
       (subst (λ (found : Option ConfFault). Stands (IsCounted lines before after) found (least_refused lines)) says
       (found_stands walk routes tasks middle early late over h k))
 
@@ -338,7 +345,7 @@ small_text text small = cond-false (nat_lt most_text_bytes (length text)) _ (sai
 -- a text within the limit says what its lines say
 pub reads_conf_of : (text : List ℕ) (before after : ℕ) (result : Result Conf ConfError) → length text ≤ most_text_bytes → ReadsLines (lines text) before after result
     → ReadsConf text before after result
-reads_conf_of text before after (Ok conf) small reads = (small_text text small ∙ reads.0, reads.1)
+reads_conf_of text before after (Ok conf) small reads = (small_text text small ∙ reads.0, reads.1, reads.2)
 reads_conf_of text before after (Err (conf_errors.Refused fault)) small reads =
-    ⊎_elim (λ said. inl (small_text text small ∙ said)) (λ pattern. inr (small, pattern.0, pattern.1)) reads
-reads_conf_of text before after (Err conf_errors.Memory) small reads = tt
+    ⊎_elim (λ said. inl (small_text text small ∙ said.0, said.1)) (λ pattern. inr (small, pattern.0, pattern.1)) reads
+reads_conf_of text before after (Err conf_errors.Memory) small reads = reads

@@ -8,7 +8,6 @@ use Rattle.uw_model.specs.declared.conf.CacheConf.{CacheConf}
 use Rattle.uw_rules.specs.declared.grammar.Table.{Table}
 use Rattle.uw_rules.specs.declared.grammar.Table.TheVariants as tables
 use Rattle.uw_rules.specs.declared.lines.RuleLine.{RuleLine}
-use Rattle.uw_rules.specs.Arguments.{SiteNames}
 use Rattle.uw_conf.specs.Configuration.{fault_of_reading, lesser_fault, said_by, unless_fault}
 use Rattle.uw_conf.specs.Routes.{first_refused_rule, rule_in, line_of_rule, rules_behind, rules_inside}
 use Rattle.uw_conf.specs.declared.conf.Options.{Options}

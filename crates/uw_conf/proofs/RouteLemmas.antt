@@ -5,7 +5,7 @@ use Rattle.std.proofs.lemmas.Bool.Decides.{eqb_tells}
 use Rattle.std.specs.List.{position_from}
 use Rattle.std.specs.Option.{option_and_then, option_map, option_or}
 use Rattle.std.specs.Str.Lossy.{utf8_valid_len}
-use Rattle.std.specs.Prelude.{length, is_some, if◌then◌else◌}
+use Rattle.std.specs.Prelude.{length, if◌then◌else◌}
 use Rattle.uw_base.specs.Texts.{trimmed}
 use Rattle.uw_rules.specs.declared.grammar.Table.{Table}
 use Rattle.uw_rules.specs.declared.lines.RuleLine.{RuleLine}
