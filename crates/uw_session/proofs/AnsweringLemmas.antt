@@ -65,6 +65,10 @@ Stops-then led before now moment course next made chains.Memory h =
 Led-none : (led : List Asking → ℕ → Type 0) (told : Option (List ℕ)) (moment : ℕ) → led [] 0 → Led led told told moment [] []
 Led-none led told moment none = (0, none, Spends-none told)
 
+-- nothing was asked
+pub asks_nothing : (led : List Asking → ℕ → Type 0) (told : Option (List ℕ)) → led [] 0 → AsksNothing led told told
+asks_nothing led told none = (none, Spends-none told)
+
 -- one ask was made
 Led-one : (led : List Asking → ℕ → Type 0) (before now : Option (List ℕ)) (moment : ℕ) (ask : Ask) (answer : AskAnswer)
     → Leads led before now moment ask (answered answer) → Led led before now moment (record { ask = ask; answer = answer } ∷ []) []

@@ -22,6 +22,12 @@ pub answer_content-requires-clause-answerable : goal.answer_content-requires-cla
 answer_content-requires-clause-answerable g c =
     IsAnswerable-more c.args.conf.now (g.D.Desk.parts c.args.desk.now) c.in-Ok.content c.requires.enough c.in-Ok.ensures.answerable
 
+pub returns-in-Ok-answer_content-clause-answers : goal.returns-in-Ok-answer_content-clause-answers
+returns-in-Ok-answer_content-clause-answers g c site of_site =
+    let packet = c.args.packet.now in
+    let said = subst (λ (options : Options). GivesContent options packet.head packet.block (Ok c.in-Ok.content)) of_site.options c.in-Ok.ensures.content in
+    (said.1, c.in-Ok-answer_content.ensures.answers site packet.head packet.block of_site refl said.0)
+
 pub returns-in-Err-answer_content-clause-answers : goal.returns-in-Err-answer_content-clause-answers
 returns-in-Err-answer_content-clause-answers g c site of_site =
     let led = both_led (g.D.Desk.leads c.args.desk.now c.answer_content.new.desk) (kept_by g.P.Keeper.rows g.P.Keeper.append_faults g.P.Keeper.other_faults c.args.keep.now c.answer_content.new.keep) in
