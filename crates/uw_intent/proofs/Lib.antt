@@ -6,3 +6,5 @@ pub mod Words
 pub mod Recoveries
 pub mod Commits
 pub mod Outcomes
+pub mod Rights
+pub mod RightCommits

@@ -1,3 +1,5 @@
 pub mod Stores
 pub mod RedoRecord
 pub mod CursorSteps
+pub mod Standing
+pub mod RightWrites

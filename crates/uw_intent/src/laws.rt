@@ -1,10 +1,14 @@
 //! Laws of the record, over all words and plans. Each is the contract of a function that does nothing.
-ghost use Rattle.std.specs.Prelude.{◌≡◌, ◌≢◌, ◌⊎◌, ◌+◌, ◌*◌, ◌<◌, ◌≤◌, None, ℕ, List, take, length};
+ghost use Rattle.std.specs.Prelude.{◌≡◌, ◌≢◌, ◌⊎◌, ◌+◌, ◌*◌, ◌<◌, ◌≤◌, None, ℕ, List, take, length, if◌then◌else◌};
 ghost use Rattle.uw_words.specs.Plans.{region, through, planned, HasDistinctPlaces};
 ghost use Rattle.uw_intent.specs.declared.frame.Frame.{Frame};
 ghost use Rattle.uw_intent.specs.declared.frame.WordWrite.{WordWrite};
 ghost use Rattle.uw_intent.specs.Stores.{words_after};
-ghost use Rattle.uw_intent.specs.RedoRecord.{IsFrame, FitsRecord, IsBeyond, IsIntact, StandsAs, commit_writes, repairs, applied};
+ghost use Rattle.uw_intent.specs.RedoRecord.{IsFrame, FitsRecord, IsBeyond, IsIntact, StandsAs, commit_writes, copies, repairs, applied};
+ghost use Rattle.uw_intent.specs.Standing.{IsLocal, StandsFor};
+ghost use Rattle.uw_intent.specs.RightWrites.{IsRight, has_opened};
+
+use crate::RegionKind;
 
 /// After each of the writes of a recovery the words are intact.
 pub fn recovery_keeps_words_intact()
@@ -80,4 +84,34 @@ pub fn whole_commit_leaves_planned_words()
 /// Writes leave the number of words.
 pub fn writes_keep_the_number_of_words()
     ensures { (writes : List WordWrite) (words : List ℕ) → length (words_after writes words) ≡ length words }
+{}
+
+/// While the writes of a right list are made, the words stand for the next state once the gate's write was made, and for
+/// the state before until then.
+pub fn right_writes_stand<K: RegionKind>()
+    ensures { (words : List ℕ) (s : K.State) (moment : ℕ) (call : K.Call) (answer : K.Answer) (todo : List WordWrite) (j : ℕ) → IsLocal K.kind
+        → K.kind.agrees words s → IsRight K.kind words s moment call answer todo
+        → StandsFor K.kind (words_after (take j todo) words) (if has_opened K.kind.frame (take j todo) then K.kind.next s moment call else s) }
+{}
+
+/// After all writes of a right list the words agree with the next state.
+pub fn right_writes_agree<K: RegionKind>()
+    ensures { (words : List ℕ) (s : K.State) (moment : ℕ) (call : K.Call) (answer : K.Answer) (todo : List WordWrite) → IsLocal K.kind
+        → K.kind.agrees words s → IsRight K.kind words s moment call answer todo
+        → K.kind.agrees (words_after todo words) (K.kind.next s moment call) }
+{}
+
+/// The writes of a commit are right for a call where the words, with the planned ones at their places, agree with the
+/// next state, and the writes are not too many.
+pub fn commit_is_right<K: RegionKind>()
+    ensures { (words : List ℕ) (s : K.State) (moment : ℕ) (call : K.Call) (plan : List (ℕ × ℕ)) → IsLocal K.kind → K.kind.agrees words s
+        → FitsRecord K.kind.frame (length words) plan → HasDistinctPlaces plan → K.kind.agrees (words_after (copies plan) words) (K.kind.next s moment call)
+        → length (commit_writes K.kind.frame plan) ≤ K.kind.most s moment call
+        → IsRight K.kind words s moment call (K.kind.answer s moment call) (commit_writes K.kind.frame plan) }
+{}
+
+/// After the planned words were put at their places, each place has what is read through the plan.
+pub fn planned_words_are_read_through_the_plan()
+    ensures { (frame : Frame) (words : List ℕ) (plan : List (ℕ × ℕ)) (at : ℕ) → FitsRecord frame (length words) plan → HasDistinctPlaces plan
+        → region (words_after (copies plan) words) at ≡ through plan (region words) at }
 {}
