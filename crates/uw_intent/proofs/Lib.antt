@@ -8,3 +8,5 @@ pub mod Commits
 pub mod Outcomes
 pub mod Rights
 pub mod RightCommits
+pub mod Worlds
+pub mod Histories

@@ -3,3 +3,4 @@ pub mod RedoRecord
 pub mod CursorSteps
 pub mod Standing
 pub mod RightWrites
+pub mod World

@@ -1,5 +1,5 @@
 //! Laws of the record, over all words and plans. Each is the contract of a function that does nothing.
-ghost use Rattle.std.specs.Prelude.{◌≡◌, ◌≢◌, ◌⊎◌, ◌+◌, ◌*◌, ◌<◌, ◌≤◌, None, ℕ, List, take, length, if◌then◌else◌};
+ghost use Rattle.std.specs.Prelude.{◌≡◌, ◌≢◌, ◌⊎◌, ◌+◌, ◌*◌, ◌<◌, ◌≤◌, None, ℕ, Bool, false, List, ◌++◌, map, take, length, if◌then◌else◌};
 ghost use Rattle.uw_words.specs.Plans.{region, through, planned, HasDistinctPlaces};
 ghost use Rattle.uw_intent.specs.declared.frame.Frame.{Frame};
 ghost use Rattle.uw_intent.specs.declared.frame.WordWrite.{WordWrite};
@@ -7,6 +7,7 @@ ghost use Rattle.uw_intent.specs.Stores.{words_after};
 ghost use Rattle.uw_intent.specs.RedoRecord.{IsFrame, FitsRecord, IsBeyond, IsIntact, StandsAs, commit_writes, copies, repairs, applied};
 ghost use Rattle.uw_intent.specs.Standing.{IsLocal, StandsFor};
 ghost use Rattle.uw_intent.specs.RightWrites.{IsRight, has_opened};
+ghost use Rattle.uw_intent.specs.World.{World, Called, Event, Step, Lock, dying, left_dead, repairing, calling, held, free, state_of, Happens, RunsTo, IsFresh, IsUnderWay, ended, joined_of, AreAnswers};
 
 use crate::RegionKind;
 
@@ -114,4 +115,45 @@ pub fn commit_is_right<K: RegionKind>()
 pub fn planned_words_are_read_through_the_plan()
     ensures { (frame : Frame) (words : List ℕ) (plan : List (ℕ × ℕ)) (at : ℕ) → FitsRecord frame (length words) plan → HasDistinctPlaces plan
         → region (words_after (copies plan) words) at ≡ through plan (region words) at }
+{}
+
+/// After every list of events the words stand for the state of the history.
+pub fn every_world_stands<K: RegionKind>()
+    ensures { (start : K.State) (w now : World K.Call K.Answer) (events : List (Event K.Call)) (steps : List (Step K.Answer)) → IsLocal K.kind
+        → IsFresh K.kind start w → RunsTo K.kind start w events steps now → StandsFor K.kind now.words (state_of K.kind start now.history) }
+{}
+
+/// Where the lock is free after a list of events, the words agree with the state of the history.
+pub fn free_worlds_agree<K: RegionKind>()
+    ensures { (start : K.State) (w now : World K.Call K.Answer) (events : List (Event K.Call)) (steps : List (Step K.Answer)) → IsLocal K.kind
+        → IsFresh K.kind start w → RunsTo K.kind start w events steps now → now.lock ≡ free → K.kind.agrees now.words (state_of K.kind start now.history) }
+{}
+
+/// The history after a list of events is the calls of the takes that ended in a leave, or in a death that says that the
+/// call is whole, in the order of the takes, and behind them the holder's call where the write that opens its gate was made.
+pub fn history_is_of_ended_calls<K: RegionKind>()
+    ensures { (start : K.State) (w now : World K.Call K.Answer) (events : List (Event K.Call)) (steps : List (Step K.Answer)) → IsFresh K.kind start w
+        → RunsTo K.kind start w events steps now → now.history ≡ map (λ e. e.made) (ended None events steps) ++ joined_of now.lock }
+{}
+
+/// Each answer of a leave is the one of the state that the calls before its call in the history leave.
+pub fn answers_are_of_their_places<K: RegionKind>()
+    ensures { (start : K.State) (w now : World K.Call K.Answer) (events : List (Event K.Call)) (steps : List (Step K.Answer)) → IsLocal K.kind
+        → IsFresh K.kind start w → RunsTo K.kind start w events steps now → AreAnswers K.kind start (ended None events steps) }
+{}
+
+/// A call for which the lock is held after a list of events has joined the history exactly where one of its writes that
+/// are done opened the gate.
+pub fn calls_join_by_the_gate<K: RegionKind>()
+    ensures { (start : K.State) (w now : World K.Call K.Answer) (events : List (Event K.Call)) (steps : List (Step K.Answer)) → IsLocal K.kind
+        → IsFresh K.kind start w → RunsTo K.kind start w events steps now
+        → (made : Called K.Call) (answer : K.Answer) (todo : List WordWrite) (joined : Bool) → now.lock ≡ held made (calling answer todo joined)
+        → IsUnderWay K.kind start now made answer todo joined }
+{}
+
+/// A death in a repair is not whole, and changes neither words nor history.
+pub fn a_death_in_a_repair_changes_nothing<K: RegionKind>()
+    ensures { (start : K.State) (w now : World K.Call K.Answer) (made : Called K.Call) (todo : List WordWrite) (who : ℕ) (step : Step K.Answer)
+        → w.lock ≡ held made (repairing todo) → Happens K.kind start w (dying who) step now
+        → (step ≡ left_dead false) × (now.words ≡ w.words) × (now.history ≡ w.history) }
 {}
