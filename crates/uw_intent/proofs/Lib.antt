@@ -10,3 +10,4 @@ pub mod Rights
 pub mod RightCommits
 pub mod Worlds
 pub mod Histories
+pub mod Turns

@@ -1,5 +1,6 @@
 -- The writes of a commit are right ones.
-use Rattle.std.proofs.Common.{◌≡◌, ◌≢◌, inl, inr, ℕ, ◌*◌, ◌<◌, ◌≤◌, All, cond, eqb, List, [], ◌∷◌, ◌++◌, length, map, get_or, set, refl, sym, ap, ◌∙◌, subst, arith, append_assoc}
+use Rattle.std.proofs.Common.{◌≡◌, ◌≢◌, inl, inr, ℕ, ◌*◌, ◌<◌, ◌≤◌, All, cond, eqb, List, [], ◌∷◌, ◌++◌, length, map, get_or, set, refl, sym, ap, ◌∙◌, subst}
+use Rattle.std.proofs.Common.{arith, append_assoc}
 use Rattle.std.proofs.lemmas.Bool.Decides.{nat_tests}
 use Rattle.std.proofs.lemmas.List.Elements.{All-cons, All-nil}
 use Rattle.uw_words.specs.Plans.{region, through, HasDistinctPlaces}
@@ -33,7 +34,8 @@ each_copied (p ∷ plan) distinct =
     let Holds : WordWrite → Type 0 = λ w. (own : ℕ) → word_after (copies (p ∷ plan)) w.at own ≡ w.word in
     All-cons Holds record { at = p.0; word = p.1 } (copies plan)
     (λ own. word_after_away (copies plan) p.0 (cond (eqb p.0 p.0) p.1 own) (commits.copies_away p plan distinct) ∙ same own)
-    (all_weaker (λ (w : WordWrite). (own : ℕ) → word_after (copies plan) w.at own ≡ w.word) Holds (copies plan) (λ w holds own. holds (cond (eqb p.0 w.at) p.1 own))
+    (all_weaker (λ (w : WordWrite). (own : ℕ) → word_after (copies plan) w.at own ≡ w.word) Holds (copies plan)
+    (λ w holds own. holds (cond (eqb p.0 w.at) p.1 own))
     (each_copied plan (commits.distinct_rest p plan distinct)))
   where
     same : (own : ℕ) → cond (eqb p.0 p.0) p.1 own ≡ p.1

@@ -1,5 +1,6 @@
 -- What the words stand for while the writes of a right list are made.
-use Rattle.std.proofs.Common.{◌≡◌, ◌≢◌, ◌⊎◌, inl, inr, ⊎_elim, ℕ, suc, ◌+◌, ◌-◌, ◌<◌, ◌≤◌, All, Bool, true, false, cond, ◌||◌, List, [], ◌∷◌, ◌++◌, length, map, get_or, take, drop, refl, sym, ap, ◌∙◌, subst, arith, append_assoc}
+use Rattle.std.proofs.Common.{◌≡◌, ◌≢◌, ◌⊎◌, inl, inr, ⊎_elim, ℕ, suc, ◌+◌, ◌-◌, ◌<◌, ◌≤◌, All, Bool, true, false, cond, ◌||◌, List, [], ◌∷◌, ◌++◌, length}
+use Rattle.std.proofs.Common.{map, get_or, take, drop, refl, sym, ap, ◌∙◌, subst, arith, append_assoc}
 use Rattle.std.proofs.Math.Seq.{take-append-add}
 use Rattle.std.proofs.lemmas.Bool.{cases_lt}
 use Rattle.std.proofs.lemmas.Bool.Decides.{nat_tests}
@@ -60,6 +61,14 @@ none_opens frame writes away =
 or_true : (b : Bool) → (b || true) ≡ true
 or_true true = refl
 or_true false = refl
+
+pub or_false : (b : Bool) → (b || false) ≡ b
+or_false true = refl
+or_false false = refl
+
+pub or_assoc : (a b c : Bool) → ((a || b) || c) ≡ (a || (b || c))
+or_assoc true b c = refl
+or_assoc false b c = refl
 
 one_opens : (frame : Frame) (early late : List WordWrite) → has_opened frame (early ++ opens frame ∷ late) ≡ true
 one_opens frame early late =
@@ -293,7 +302,8 @@ module _ {S C A : Type 0} (k : Kind S C A) (is : IsLocal k) where
             after_opening i (inl past) =
                 let whole : take i ending ≡ ending = take_all i ending (omega (arith, length-append copied (closing k.frame ∷ []))) in
                 let same : words_after todo words ≡ words_after (take i ending) opened =
-                ap (λ (l : List WordWrite). words_after l words) in_order ∙ made_opened ending ∙ ap (λ (l : List WordWrite). words_after l opened) (sym whole) in
+                ap (λ (l : List WordWrite). words_after l words) in_order ∙ made_opened ending
+                ∙ ap (λ (l : List WordWrite). words_after l opened) (sym whole) in
                 subst (λ (l : List ℕ). StandsFor k l after) same (agreeing_stand (words_after todo words) after gated_agree)
 
   module _ (words : List ℕ) (s : S) (moment : ℕ) (call : C) (answer : A) (todo : List WordWrite) (agrees : k.agrees words s)
@@ -305,7 +315,8 @@ module _ {S C A : Type 0} (k : Kind S C A) (is : IsLocal k) where
     pub right_stand : (j : ℕ) → StandsFor k (words_after (take j todo) words) (cond (has_opened k.frame (take j todo)) (k.next s moment call) s)
     right_stand j = go right.plan
       where
-        go : ((todo ≡ []) × k.agrees words next) ⊎ IsGated k words next todo → StandsFor k (words_after (take j todo) words) (cond (has_opened k.frame (take j todo)) next s)
+        go : ((todo ≡ []) × k.agrees words next) ⊎ IsGated k words next todo
+            → StandsFor k (words_after (take j todo) words) (cond (has_opened k.frame (take j todo)) next s)
         go (inl none) =
             let nothing : take j todo ≡ [] = ap (take j) none.0 ∙ take_all j [] (omega arith) in
             subst (λ (l : List WordWrite). StandsFor k (words_after l words) (cond (has_opened k.frame l) next s)) (sym nothing) (agreeing_stand words s agrees)

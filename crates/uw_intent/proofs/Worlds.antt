@@ -1,5 +1,6 @@
 -- What holds of the world of a region after each event.
-use Rattle.std.proofs.Common.{◌≡◌, ◌⊎◌, inl, inr, ℕ, Bool, true, false, not, cond, ◌||◌, ◌&&◌, List, [], ◌∷◌, ◌++◌, length, set, take, refl, sym, ap, ◌∙◌, subst, append_assoc}
+use Rattle.std.proofs.Common.{◌≡◌, ◌⊎◌, inl, inr, ℕ, Bool, true, false, not, cond, ◌||◌, ◌&&◌, List, [], ◌∷◌, ◌++◌, length, set, take, refl, sym, ap, ◌∙◌}
+use Rattle.std.proofs.Common.{subst, append_assoc}
 use Rattle.std.proofs.lemmas.List.{take_at, append-nil}
 use Rattle.std.proofs.lemmas.List.Folds.{list_any-append}
 use Rattle.uw_intent.specs.declared.frame.WordWrite.{WordWrite}
@@ -7,10 +8,12 @@ use Rattle.uw_intent.specs.Stores.{words_after}
 use Rattle.uw_intent.specs.RedoRecord.{IsFrame, IsIntact, repairs, applied}
 use Rattle.uw_intent.specs.Standing.{Kind, IsLocal, StandsFor}
 use Rattle.uw_intent.specs.RightWrites.{is_opening, has_opened, IsRight}
-use Rattle.uw_intent.specs.World.{Called, Event, taking, writing, leaving, dying, Step, wrote, left_dead, Phase, repairing, calling, Lock, free, dead, held, World, state_of, IsUnheld, HeldBy, has_joined, with_call, with_write, Begins, Takes, Writes, Leaves, Happens, RunsTo, IsFresh, IsUnderWay}
+use Rattle.uw_intent.specs.World.{Called, Event, taking, writing, leaving, dying, Step, wrote, left_dead, Phase, repairing, calling, Lock, free, dead, held}
+use Rattle.uw_intent.specs.World.{World, state_of, IsUnheld, HeldBy, has_joined, with_call, with_write, Begins, TakesLock, MakesWrite, LeavesLock, Happens}
+use Rattle.uw_intent.specs.World.{RunsTo, IsFresh, IsUnderWay}
 use Rattle.uw_intent.proofs.Progress.{length-made, made-append}
 use Rattle.uw_intent.proofs.Recoveries.{all_intact, all_applied}
-use Rattle.uw_intent.proofs.Rights.{agreeing_stand, standing_agree, right_stand, right_agree}
+use Rattle.uw_intent.proofs.Rights.{or_false, agreeing_stand, standing_agree, right_stand, right_agree}
 
 -- a state after one more call
 state_of-push : {S C A : Type 0} → (k : Kind S C A) (s : S) (history : List (Called C)) (made : Called C)
@@ -27,12 +30,9 @@ pub record IsRepaired {S C A : Type 0} (k : Kind S C A) (s : S) (now : List ℕ)
   pub words : now ≡ words_after done before
 
 -- one more write is done
-one_done : (done : List WordWrite) (write : WordWrite) (before now : List ℕ) → now ≡ words_after done before → set now write.at write.word ≡ words_after (done ++ write ∷ []) before
+one_done : (done : List WordWrite) (write : WordWrite) (before now : List ℕ) → now ≡ words_after done before
+    → set now write.at write.word ≡ words_after (done ++ write ∷ []) before
 one_done done write before now words = ap (λ (l : List ℕ). set l write.at write.word) words ∙ sym (made-append done (write ∷ []) before)
-
-or_false : (b : Bool) → (b || false) ≡ b
-or_false true = refl
-or_false false = refl
 
 module _ {S C A : Type 0} (k : Kind S C A) (start : S) where
   -- what holds of a world, by its lock
@@ -50,12 +50,13 @@ module _ {S C A : Type 0} (k : Kind S C A) (start : S) where
     repaired_stand s now todo repair =
         let n = length repair.done in
         let some : take n (repairs k.frame repair.before) ≡ repair.done = ap (take n) repair.is ∙ take_at repair.done todo n refl in
-        let same : words_after (take n (repairs k.frame repair.before)) repair.before ≡ now = ap (λ (l : List WordWrite). words_after l repair.before) some ∙ sym repair.words in
+        let same : words_after (take n (repairs k.frame repair.before)) repair.before ≡ now =
+        ap (λ (l : List WordWrite). words_after l repair.before) some ∙ sym repair.words in
         let frame = framed repair.before s repair.stood in
+        let applies = all_applied k.frame repair.before n frame repair.stood.intact in
         record {
           intact = subst (IsIntact k.frame) same (all_intact k.frame repair.before n frame repair.stood.intact);
-          agrees =
-              subst (λ (l : List ℕ). k.agrees l s) (sym (all_applied k.frame repair.before n frame repair.stood.intact) ∙ ap (applied k.frame) same) repair.stood.agrees;
+          agrees = subst (λ (l : List ℕ). k.agrees l s) (sym applies ∙ ap (applied k.frame) same) repair.stood.agrees;
         }
 
     -- the state of the history, while a call is under way
@@ -76,7 +77,8 @@ module _ {S C A : Type 0} (k : Kind S C A) (start : S) where
         subst (λ (l : List WordWrite). StandsFor k (words_after l call.before) (cond (has_opened k.frame l) next s)) some stands in
         let state : cond (has_opened k.frame call.done) next s ≡ state_of k start w.history =
         ap (λ (b : Bool). cond b next s) (sym call.joins) ∙ state_with call.past made joined ∙ ap (state_of k start) (sym call.history) in
-        subst (λ (l : List ℕ). StandsFor k l (state_of k start w.history)) (sym call.words) (subst (StandsFor k (words_after call.done call.before)) state by_done)
+        subst (λ (l : List ℕ). StandsFor k l (state_of k start w.history)) (sym call.words)
+        (subst (StandsFor k (words_after call.done call.before)) state by_done)
 
     -- the words stand for the state of the history
     pub holding_stands : (w : World C A) (lock : Lock C A) → Holds w lock → StandsFor k w.words (state_of k start w.history)
@@ -96,7 +98,8 @@ module _ {S C A : Type 0} (k : Kind S C A) (start : S) where
         go (inr stands) = subst (Holds w) (sym stands.0) (subst (StandsFor k w.words) same stands.1)
 
     -- a call begins on words that agree
-    begins_holds : (w : World C A) (made : Called C) (now : World C A) → k.agrees w.words (state_of k start w.history) → Begins k start w made now → Holds now now.lock
+    begins_holds : (w : World C A) (made : Called C) (now : World C A) → k.agrees w.words (state_of k start w.history) → Begins k start w made now
+        → Holds now now.lock
     begins_holds w made now agrees begins = subst (λ (v : World C A). Holds v v.lock) (sym begins.is) (
         let call : IsUnderWay k start (record w { lock = held made (calling begins.answer begins.todo false) }) made begins.answer begins.todo false =
         record { before = w.words; past = w.history; done = []; agreed = agrees; right = begins.right; words = refl; history = refl; joins = refl } in call
@@ -105,14 +108,19 @@ module _ {S C A : Type 0} (k : Kind S C A) (start : S) where
     repair_begins : (w : World C A) (made : Called C) (now : World C A) → StandsFor k w.words (state_of k start w.history)
         → now ≡ record w { lock = held made (repairing (repairs k.frame w.words)) } → Holds now now.lock
     repair_begins w made now stands same = subst (λ (v : World C A). Holds v v.lock) (sym same) (
-        let repair : IsRepaired k (state_of k start w.history) w.words (repairs k.frame w.words) = record { before = w.words; done = []; stood = stands; is = refl; words = refl } in repair
+        let repair : IsRepaired k (state_of k start w.history) w.words (repairs k.frame w.words) =
+        record { before = w.words; done = []; stood = stands; is = refl; words = refl } in
+        repair
         )
 
-    takes_holds : (w : World C A) (lock : Lock C A) (made : Called C) (now : World C A) → Holds w lock → IsUnheld lock → Takes k start w made now → Holds now now.lock
+    takes_holds : (w : World C A) (lock : Lock C A) (made : Called C) (now : World C A) → Holds w lock → IsUnheld lock → TakesLock k start w made now
+        → Holds now now.lock
     takes_holds w (held other phase) made now holds unheld takes = absurd unheld
     takes_holds w free made now holds unheld (inl (closed, begins)) = begins_holds w made now holds begins
-    takes_holds w dead made now holds unheld (inl (closed, begins)) = begins_holds w made now (standing_agree k is w.words (state_of k start w.history) holds closed) begins
-    takes_holds w free made now holds unheld (inr (pending, same)) = repair_begins w made now (agreeing_stand k is w.words (state_of k start w.history) holds) same
+    takes_holds w dead made now holds unheld (inl (closed, begins)) =
+        begins_holds w made now (standing_agree k is w.words (state_of k start w.history) holds closed) begins
+    takes_holds w free made now holds unheld (inr (pending, same)) =
+        repair_begins w made now (agreeing_stand k is w.words (state_of k start w.history) holds) same
     takes_holds w dead made now holds unheld (inr (pending, same)) = repair_begins w made now holds same
 
     -- the history of a call under way after one more write
@@ -122,7 +130,8 @@ module _ {S C A : Type 0} (k : Kind S C A) (start : S) where
     joins_more false true past made = refl
     joins_more false false past made = refl
 
-    writes_holds : (w : World C A) (made : Called C) (phase : Phase A) (now : World C A) → Holds w (held made phase) → Writes k start w made phase now → Holds now now.lock
+    writes_holds : (w : World C A) (made : Called C) (phase : Phase A) (now : World C A) → Holds w (held made phase) → MakesWrite k start w made phase now
+        → Holds now now.lock
     writes_holds w made (repairing []) now repair writes = absurd writes
     writes_holds w made (repairing (write ∷ [])) now repair begins =
         let s = state_of k start w.history in
@@ -155,7 +164,9 @@ module _ {S C A : Type 0} (k : Kind S C A) (start : S) where
           past = call.past;
           done = call.done ++ write ∷ [];
           agreed = call.agreed;
-          right = subst (IsRight k call.before (state_of k start call.past) made.moment made.call answer) (sym (append_assoc call.done (write ∷ []) todo)) call.right;
+          right =
+              subst (IsRight k call.before (state_of k start call.past) made.moment made.call answer)
+              (sym (append_assoc call.done (write ∷ []) todo)) call.right;
           words = one_done call.done write call.before w.words call.words;
           history = ap (λ (l : List (Called C)). with_call (not joined && opening) l made) call.history ∙ joins_more joined opening call.past made;
           joins =
@@ -170,41 +181,48 @@ module _ {S C A : Type 0} (k : Kind S C A) (start : S) where
     joins_last true past made = refl
     joins_last false past made = refl
 
-    leaves_holds : (w : World C A) (made : Called C) (phase : Phase A) (step : Step A) (now : World C A) → Holds w (held made phase) → Leaves k start w made phase step now → Holds now now.lock
+    leaves_holds : (w : World C A) (made : Called C) (phase : Phase A) (step : Step A) (now : World C A) → Holds w (held made phase)
+        → LeavesLock k start w made phase step now → Holds now now.lock
     leaves_holds w made (repairing todo) step now repair leaves = absurd leaves
     leaves_holds w made (calling answer (write ∷ todo) joined) step now call leaves = absurd leaves
     leaves_holds w made (calling answer [] joined) step now call leaves = subst (λ (v : World C A). Holds v v.lock) (sym leaves.1) (
         let s = state_of k start call.past in
         let next = k.next s made.moment made.call in
-        let agrees : k.agrees (words_after (call.done ++ []) call.before) next = right_agree k is call.before s made.moment made.call answer (call.done ++ []) call.agreed call.right in
-        let words : words_after (call.done ++ []) call.before ≡ w.words = ap (λ (l : List WordWrite). words_after l call.before) (append-nil call.done) ∙ sym call.words in
-        let state : next ≡ state_of k start (with_call (not joined) w.history made) =
-        sym (state_of-push k start call.past made) ∙ ap (state_of k start) (sym (ap (λ (l : List (Called C)). with_call (not joined) l made) call.history ∙ joins_last joined call.past made)) in
-        subst (λ (l : List ℕ). k.agrees l (state_of k start (with_call (not joined) w.history made))) words (subst (k.agrees (words_after (call.done ++ []) call.before)) state agrees)
+        let all = call.done ++ [] in
+        let agrees : k.agrees (words_after all call.before) next = right_agree k is call.before s made.moment made.call answer all call.agreed call.right in
+        let words : words_after all call.before ≡ w.words = ap (λ (l : List WordWrite). words_after l call.before) (append-nil call.done) ∙ sym call.words in
+        let after = with_call (not joined) w.history made in
+        let history : after ≡ call.past ++ made ∷ [] =
+        ap (λ (l : List (Called C)). with_call (not joined) l made) call.history ∙ joins_last joined call.past made in
+        let state : next ≡ state_of k start after = sym (state_of-push k start call.past made) ∙ ap (state_of k start) (sym history) in
+        subst (λ (l : List ℕ). k.agrees l (state_of k start after)) words (subst (k.agrees (words_after all call.before)) state agrees)
         )
 
-    pub happens_holds : (w : World C A) (event : Event C) (step : Step A) (now : World C A) → Holds w w.lock → Happens k start w event step now → Holds now now.lock
+    pub happens_holds : (w : World C A) (event : Event C) (step : Step A) (now : World C A) → Holds w w.lock → Happens k start w event step now
+        → Holds now now.lock
     happens_holds w (taking made) step now holds takes = takes_holds w w.lock made now holds takes.0 takes.2
     happens_holds w (writing who) step now holds happens = go w.lock holds happens
       where
-        go : (lock : Lock C A) → Holds w lock → HeldBy who lock (λ made phase. (step ≡ wrote) × Writes k start w made phase now) → Holds now now.lock
+        go : (lock : Lock C A) → Holds w lock → HeldBy who lock (λ made phase. (step ≡ wrote) × MakesWrite k start w made phase now) → Holds now now.lock
         go free holds none = absurd none
         go dead holds none = absurd none
         go (held made phase) holds writes = writes_holds w made phase now holds writes.1.1
     happens_holds w (leaving who) step now holds happens = go w.lock holds happens
       where
-        go : (lock : Lock C A) → Holds w lock → HeldBy who lock (λ made phase. Leaves k start w made phase step now) → Holds now now.lock
+        go : (lock : Lock C A) → Holds w lock → HeldBy who lock (λ made phase. LeavesLock k start w made phase step now) → Holds now now.lock
         go free holds none = absurd none
         go dead holds none = absurd none
         go (held made phase) holds leaves = leaves_holds w made phase step now holds leaves.1
     happens_holds w (dying who) step now holds happens = go w.lock holds happens
       where
-        go : (lock : Lock C A) → Holds w lock → HeldBy who lock (λ made phase. (step ≡ left_dead (has_joined phase)) × (now ≡ record w { lock = dead })) → Holds now now.lock
+        go : (lock : Lock C A) → Holds w lock → HeldBy who lock (λ made phase. (step ≡ left_dead (has_joined phase)) × (now ≡ record w { lock = dead }))
+            → Holds now now.lock
         go free holds none = absurd none
         go dead holds none = absurd none
         go (held made phase) holds dies = subst (λ (v : World C A). Holds v v.lock) (sym dies.1.1) (holding_stands w (held made phase) holds)
 
-    pub run_holds : (events : List (Event C)) (steps : List (Step A)) (w now : World C A) → Holds w w.lock → RunsTo k start w events steps now → Holds now now.lock
+    pub run_holds : (events : List (Event C)) (steps : List (Step A)) (w now : World C A) → Holds w w.lock → RunsTo k start w events steps now
+        → Holds now now.lock
     run_holds [] [] w now holds same = subst (λ (v : World C A). Holds v v.lock) (sym same) holds
     run_holds [] (step ∷ steps) w now holds runs = absurd runs
     run_holds (event ∷ events) [] w now holds runs = absurd runs

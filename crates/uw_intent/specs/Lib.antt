@@ -4,3 +4,4 @@ pub mod CursorSteps
 pub mod Standing
 pub mod RightWrites
 pub mod World
+pub mod CallTurns

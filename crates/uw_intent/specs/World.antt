@@ -54,6 +54,11 @@ abbrev pub has_joined : {A : Type 0} → Phase A → Bool
 has_joined (repairing todo) = false
 has_joined (calling answer todo joined) = joined
 
+-- the writes that are left
+abbrev pub writes_left : {A : Type 0} → Phase A → List WordWrite
+writes_left (repairing todo) = todo
+writes_left (calling answer todo joined) = todo
+
 -- a history, and the call where it joins
 abbrev pub with_call : {C : Type 0} → Bool → List (Called C) → Called C → List (Called C)
 with_call joins history made = if joins then history ++ made ∷ [] else history
@@ -84,34 +89,35 @@ module _ {S C A : Type 0} (k : Kind S C A) (start : S) where
     pub is : now ≡ record w { lock = held made (calling answer todo false) }
 
   -- a worker takes the lock: where the gate is closed it begins its call, and where it is open it is first at the repair
-  abbrev pub Takes : World C A → Called C → World C A → Type 0
-  Takes w made now =
+  abbrev pub TakesLock : World C A → Called C → World C A → Type 0
+  TakesLock w made now =
       ((region w.words k.frame.gate ≡ 0) × Begins w made now)
       ⊎ ((region w.words k.frame.gate ≢ 0) × (now ≡ record w { lock = held made (repairing (repairs k.frame w.words)) }))
 
-  -- the holder makes the first write that is left: behind the last one of a repair it begins its call, and by the one that opens the gate its call joins the history
-  abbrev pub Writes : World C A → Called C → Phase A → World C A → Type 0
-  Writes w made (repairing []) now = ⊥
-  Writes w made (repairing (write ∷ [])) now = Begins (with_write w write) made now
-  Writes w made (repairing (write ∷ later ∷ todo)) now = now ≡ record (with_write w write) { lock = held made (repairing (later ∷ todo)) }
-  Writes w made (calling answer [] joined) now = ⊥
-  Writes w made (calling answer (write ∷ todo) joined) now = now ≡ record {
+  -- the holder makes the first write that is left: after the last one of a repair its call begins, and by the one that opens the gate it joins the history
+  abbrev pub MakesWrite : World C A → Called C → Phase A → World C A → Type 0
+  MakesWrite w made (repairing []) now = ⊥
+  MakesWrite w made (repairing (write ∷ [])) now = Begins (with_write w write) made now
+  MakesWrite w made (repairing (write ∷ later ∷ todo)) now = now ≡ record (with_write w write) { lock = held made (repairing (later ∷ todo)) }
+  MakesWrite w made (calling answer [] joined) now = ⊥
+  MakesWrite w made (calling answer (write ∷ todo) joined) now = now ≡ record {
     words = slice_set w.words write.at write.word;
     lock = held made (calling answer todo (joined || is_opening k.frame write));
     history = with_call (not joined && is_opening k.frame write) w.history made;
   }
 
   -- the holder, which has no write left, leaves the lock: a call that had no write joins the history here
-  abbrev pub Leaves : World C A → Called C → Phase A → Step A → World C A → Type 0
-  Leaves w made (repairing todo) step now = ⊥
-  Leaves w made (calling answer (write ∷ todo) joined) step now = ⊥
-  Leaves w made (calling answer [] joined) step now = (step ≡ left_with answer) × (now ≡ record w { lock = free; history = with_call (not joined) w.history made })
+  abbrev pub LeavesLock : World C A → Called C → Phase A → Step A → World C A → Type 0
+  LeavesLock w made (repairing todo) step now = ⊥
+  LeavesLock w made (calling answer (write ∷ todo) joined) step now = ⊥
+  LeavesLock w made (calling answer [] joined) step now =
+      (step ≡ left_with answer) × (now ≡ record w { lock = free; history = with_call (not joined) w.history made })
 
   -- what each event does: what is not said here does not happen
   abbrev pub Happens : World C A → Event C → Step A → World C A → Type 0
-  Happens w (taking made) step now = IsUnheld w.lock × (step ≡ taken) × Takes w made now
-  Happens w (writing who) step now = HeldBy who w.lock (λ made phase. (step ≡ wrote) × Writes w made phase now)
-  Happens w (leaving who) step now = HeldBy who w.lock (λ made phase. Leaves w made phase step now)
+  Happens w (taking made) step now = IsUnheld w.lock × (step ≡ taken) × TakesLock w made now
+  Happens w (writing who) step now = HeldBy who w.lock (λ made phase. (step ≡ wrote) × MakesWrite w made phase now)
+  Happens w (leaving who) step now = HeldBy who w.lock (λ made phase. LeavesLock w made phase step now)
   Happens w (dying who) step now = HeldBy who w.lock (λ made phase. (step ≡ left_dead (has_joined phase)) × (now ≡ record w { lock = dead }))
 
   -- events one after the other, and what each answers
@@ -121,12 +127,12 @@ module _ {S C A : Type 0} (k : Kind S C A) (start : S) where
   RunsTo w (event ∷ events) [] now = ⊥
   RunsTo w (event ∷ events) (step ∷ steps) now = (mid : World C A) × Happens w event step mid × RunsTo mid events steps now
 
-  -- a world before its first event: no call is in its history, and its lock is free over words that agree with the first state, or dead over words that stand for it
+  -- a world before its first event: its history is empty, and its lock is free over words that agree with the first state, or dead over words that stand for it
   pub record IsFresh (w : World C A) : Type 0 where
     pub none : w.history ≡ []
     pub fits : ((w.lock ≡ free) × k.agrees w.words start) ⊎ ((w.lock ≡ dead) × StandsFor k w.words start)
 
-  -- a call under way: it began on words that agreed with the state of the history then, its writes are right, so many are done and the others are left, and it has
+  -- a call under way: it began on words that agreed with the state of the history then, its writes are right, some are done and the others left, and it has
   -- joined the history exactly where one that is done opened the gate
   pub record IsUnderWay (w : World C A) (made : Called C) (answer : A) (todo : List WordWrite) (joined : Bool) : Type 0 where
     pub before : List ℕ
@@ -149,6 +155,14 @@ holder_after holder (taking made) = Some made
 holder_after holder (writing who) = holder
 holder_after holder (leaving who) = None
 holder_after holder (dying who) = None
+
+-- the calls of the takes among events, in their order
+abbrev pub takes_of : {C : Type 0} → List (Event C) → List (Called C)
+takes_of [] = []
+takes_of (taking made ∷ events) = made ∷ takes_of events
+takes_of (writing who ∷ events) = takes_of events
+takes_of (leaving who ∷ events) = takes_of events
+takes_of (dying who ∷ events) = takes_of events
 
 module _ {C A : Type 0} where
   -- the holder's call, where an event ended it and it counts: it was left, or the death says that it is whole

@@ -1,13 +1,15 @@
 //! Laws of the record, over all words and plans. Each is the contract of a function that does nothing.
-ghost use Rattle.std.specs.Prelude.{◌≡◌, ◌≢◌, ◌⊎◌, ◌+◌, ◌*◌, ◌<◌, ◌≤◌, None, ℕ, Bool, false, List, ◌++◌, map, take, length, if◌then◌else◌};
+ghost use Rattle.std.specs.Prelude.{◌≡◌, ◌≢◌, ◌⊎◌, ◌+◌, ◌*◌, ◌<◌, ◌≤◌, None, Option, ℕ, Bool, false, List, ◌++◌, map, count_by, take, length, if◌then◌else◌};
 ghost use Rattle.uw_words.specs.Plans.{region, through, planned, HasDistinctPlaces};
 ghost use Rattle.uw_intent.specs.declared.frame.Frame.{Frame};
 ghost use Rattle.uw_intent.specs.declared.frame.WordWrite.{WordWrite};
-ghost use Rattle.uw_intent.specs.Stores.{words_after};
+ghost use Rattle.uw_intent.specs.Stores.{words_after, AllMade, SomeMade};
 ghost use Rattle.uw_intent.specs.RedoRecord.{IsFrame, FitsRecord, IsBeyond, IsIntact, StandsAs, commit_writes, copies, repairs, applied};
 ghost use Rattle.uw_intent.specs.Standing.{IsLocal, StandsFor};
 ghost use Rattle.uw_intent.specs.RightWrites.{IsRight, has_opened};
-ghost use Rattle.uw_intent.specs.World.{World, Called, Event, Step, Lock, dying, left_dead, repairing, calling, held, free, state_of, Happens, RunsTo, IsFresh, IsUnderWay, ended, joined_of, AreAnswers};
+ghost use Rattle.uw_intent.specs.World.{World, Called, Event, Step, Lock, dying, left_dead, repairing, calling, held, free, state_of, IsUnheld, Happens};
+ghost use Rattle.uw_intent.specs.World.{RunsTo, IsFresh, IsUnderWay, ended, takes_of, joined_of, AreAnswers};
+ghost use Rattle.uw_intent.specs.CallTurns.{CallEnd, died, CallMade, IsCallTurn};
 
 use crate::RegionKind;
 
@@ -136,6 +138,12 @@ pub fn history_is_of_ended_calls<K: RegionKind>()
         → RunsTo K.kind start w events steps now → now.history ≡ map (λ e. e.made) (ended None events steps) ++ joined_of now.lock }
 {}
 
+/// The call of each take is in the history at most once: of the calls that pass any test, it has no more than the takes.
+pub fn takes_join_once<K: RegionKind>()
+    ensures { (start : K.State) (w now : World K.Call K.Answer) (events : List (Event K.Call)) (steps : List (Step K.Answer)) → IsFresh K.kind start w
+        → RunsTo K.kind start w events steps now → (p : Called K.Call → Bool) → count_by p now.history ≤ count_by p (takes_of events) }
+{}
+
 /// Each answer of a leave is the one of the state that the calls before its call in the history leave.
 pub fn answers_are_of_their_places<K: RegionKind>()
     ensures { (start : K.State) (w now : World K.Call K.Answer) (events : List (Event K.Call)) (steps : List (Step K.Answer)) → IsLocal K.kind
@@ -156,4 +164,19 @@ pub fn a_death_in_a_repair_changes_nothing<K: RegionKind>()
     ensures { (start : K.State) (w now : World K.Call K.Answer) (made : Called K.Call) (todo : List WordWrite) (who : ℕ) (step : Step K.Answer)
         → w.lock ≡ held made (repairing todo) → Happens K.kind start w (dying who) step now
         → (step ≡ left_dead false) × (now.words ≡ w.words) × (now.history ≡ w.history) }
+{}
+
+/// A call behind all writes of the repair is a turn in the world: the lock is taken, and just so many writes are made as the
+/// life let through, of the repair and of the call.
+pub fn calls_are_turns<K: RegionKind>()
+    ensures { (start : K.State) (w : World K.Call K.Answer) (made : Called K.Call) (before now : List ℕ) (told mid left : Option (List ℕ))
+        (todo : List WordWrite) (end : CallEnd K.Answer) → IsUnheld w.lock → AllMade (repairs K.kind.frame w.words) w.words before told mid
+        → CallMade K.kind (state_of K.kind start w.history) before now mid left made.moment made.call todo end
+        → IsCallTurn K.kind start w made now told left end }
+{}
+
+/// A death in the repair before a call is a turn in the world, of which the call is not whole.
+pub fn broken_repairs_are_turns<K: RegionKind>()
+    ensures { (start : K.State) (w : World K.Call K.Answer) (made : Called K.Call) (now : List ℕ) (told left : Option (List ℕ)) → IsUnheld w.lock
+        → SomeMade (repairs K.kind.frame w.words) w.words now told left → IsCallTurn K.kind start w made now told left (died false) }
 {}
