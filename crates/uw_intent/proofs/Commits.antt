@@ -55,10 +55,10 @@ laid_text at (word ∷ text) words within =
 
 -- what a reader sees after the copies of a plan
 
-distinct_rest : (p : ℕ × ℕ) (plan : List (ℕ × ℕ)) → HasDistinctPlaces (p ∷ plan) → HasDistinctPlaces plan
+pub distinct_rest : (p : ℕ × ℕ) (plan : List (ℕ × ℕ)) → HasDistinctPlaces (p ∷ plan) → HasDistinctPlaces plan
 distinct_rest p plan distinct = λ i j d early within. distinct (suc i) (suc j) d (omega arith) (omega arith)
 
-copies_away : (p : ℕ × ℕ) (plan : List (ℕ × ℕ)) → HasDistinctPlaces (p ∷ plan) → AllAway p.0 (copies plan)
+pub copies_away : (p : ℕ × ℕ) (plan : List (ℕ × ℕ)) → HasDistinctPlaces (p ∷ plan) → AllAway p.0 (copies plan)
 copies_away p [] distinct = All-nil (λ (w : WordWrite). w.at ≢ p.0)
 copies_away p (q ∷ plan) distinct =
     All-cons (λ (w : WordWrite). w.at ≢ p.0) record { at = q.0; word = q.1 } (copies plan) (λ same. distinct 0 1 q (omega arith) (omega arith) (sym same))
@@ -70,7 +70,7 @@ copies_away p (q ∷ plan) distinct =
     without distinct (suc i) zero d early within = absurd (omega arith)
     without distinct (suc i) (suc j) d early within = distinct (suc (suc i)) (suc (suc j)) d (omega arith) (omega arith)
 
-copies_through : (plan : List (ℕ × ℕ)) (at own : ℕ) → HasDistinctPlaces plan → word_after (copies plan) at own ≡ unwrap_or (planned plan at) own
+pub copies_through : (plan : List (ℕ × ℕ)) (at own : ℕ) → HasDistinctPlaces plan → word_after (copies plan) at own ≡ unwrap_or (planned plan at) own
 copies_through [] at own distinct = refl
 copies_through (p ∷ plan) at own distinct = elim (cases_eq p.0 at) [
   | inl same ↦
@@ -125,7 +125,7 @@ module _ (frame : Frame) (words : List ℕ) (plan : List (ℕ × ℕ)) (is : IsF
   laid_in : All InRecord (laid frame.start (runs_of plan))
   laid_in = laid_outside frame.start (runs_of plan)
 
-  laid_all : (P : WordWrite → Type 0) → ((w : WordWrite) → InRecord w → P w) → P using → All P record_laid
+  pub laid_all : (P : WordWrite → Type 0) → ((w : WordWrite) → InRecord w → P w) → P using → All P record_laid
   laid_all P each last =
       All-append P (laid frame.start (runs_of plan)) (using ∷ []) (all_weaker InRecord P (laid frame.start (runs_of plan)) each laid_in) (All-cons P using [] last (All-nil P))
 
@@ -156,10 +156,10 @@ module _ (frame : Frame) (words : List ℕ) (plan : List (ℕ × ℕ)) (is : IsF
   abbrev opened : List ℕ
   opened = set (words_after record_laid words) frame.gate 1
 
-  length-opened : length opened ≡ length words
+  pub length-opened : length opened ≡ length words
   length-opened = length-set (words_after record_laid words) frame.gate 1 ∙ length-made record_laid words
 
-  opened_gate : region opened frame.gate ≡ 1
+  pub opened_gate : region opened frame.gate ≡ 1
   opened_gate = get_or-set_same (words_after record_laid words) frame.gate 1 0 (omega (arith, length-made record_laid words, gate_within))
 
   opened_other : (at : ℕ) → at ≢ frame.gate → region opened at ≡ region (words_after record_laid words) at
@@ -190,13 +190,13 @@ module _ (frame : Frame) (words : List ℕ) (plan : List (ℕ × ℕ)) (is : IsF
       ∙ part_made late base frame.start n aside
       ∙ laid_text frame.start (runs_of plan) words text_within
 
-  opened_runs : run_repairs frame opened ≡ copies plan
+  pub opened_runs : run_repairs frame opened ≡ copies plan
   opened_runs = ap (run_writes 0 0) opened_text ∙ run_writes-runs_of 0 plan
 
-  opened_frame : IsFrame frame (length opened)
+  pub opened_frame : IsFrame frame (length opened)
   opened_frame = record { gate = is.gate; used = is.used; start = is.start; within = omega (arith, length-opened, is.within) }
 
-  copies_targets : All (λ (w : WordWrite). IsTarget frame (length words) w.at) (copies plan)
+  pub copies_targets : All (λ (w : WordWrite). IsTarget frame (length words) w.at) (copies plan)
   copies_targets = go plan fit.targets
     where
       go : (plan : List (ℕ × ℕ)) → All (λ planned. IsTarget frame (length words) planned.0) plan → All (λ (w : WordWrite). IsTarget frame (length words) w.at) (copies plan)
@@ -204,7 +204,7 @@ module _ (frame : Frame) (words : List ℕ) (plan : List (ℕ × ℕ)) (is : IsF
       go (p ∷ plan) all =
           All-cons (λ (w : WordWrite). IsTarget frame (length words) w.at) record { at = p.0; word = p.1 } (copies plan) (all 0 (0, 0) (omega arith)) (go plan (λ k d h. all (suc k) d (omega arith)))
 
-  opened_whole : IsRecord frame opened
+  pub opened_whole : IsRecord frame opened
   opened_whole = record {
     within = omega (arith, opened_used, fit.room);
     whole = subst (IsWholeText 0) (sym opened_text) (whole-runs_of plan);
@@ -213,17 +213,17 @@ module _ (frame : Frame) (words : List ℕ) (plan : List (ℕ × ℕ)) (is : IsF
         (subst (All (λ (w : WordWrite). IsTarget frame (length words) w.at)) (sym opened_runs) copies_targets);
   }
 
-  opened_repairs : repairs frame opened ≡ copied
+  pub opened_repairs : repairs frame opened ≡ copied
   opened_repairs = repairs_are frame opened opened_frame opened_gate opened_whole ∙ ap (λ (l : List WordWrite). l ++ closing frame ∷ []) opened_runs
 
-  copied_within : AllWithin (length opened) copied
+  pub copied_within : AllWithin (length opened) copied
   copied_within = subst (λ (n : ℕ). AllWithin n copied) (sym length-opened)
       (All-append (λ (w : WordWrite). w.at < length words) (copies plan) (closing frame ∷ [])
       (all_weaker (λ (w : WordWrite). IsTarget frame (length words) w.at) (λ (w : WordWrite). w.at < length words) (copies plan) (λ w target. target.within) copies_targets)
       (All-cons (λ (w : WordWrite). w.at < length words) (closing frame) [] gate_within (All-nil (λ (w : WordWrite). w.at < length words))))
 
   -- after all copies a reader sees the planned words
-  all_copied : HasDistinctPlaces plan → (at : ℕ) → IsBeyond frame at → region (words_after copied opened) at ≡ through plan (region words) at
+  pub all_copied : HasDistinctPlaces plan → (at : ℕ) → IsBeyond frame at → region (words_after copied opened) at ≡ through plan (region words) at
   all_copied distinct at beyond =
       let closed : AllAway at (closing frame ∷ []) = All-cons (λ (w : WordWrite). w.at ≢ at) (closing frame) [] (λ same. beyond.gate (sym same)) (All-nil (λ (w : WordWrite). w.at ≢ at)) in
       get_or-made copied opened at copied_within
@@ -233,7 +233,7 @@ module _ (frame : Frame) (words : List ℕ) (plan : List (ℕ × ℕ)) (is : IsF
       ∙ ap (λ (own : ℕ). unwrap_or (planned plan at) own) (opened_beyond at beyond)
 
   module _ (some : 0 < length plan) where
-    split : commit_writes frame plan ≡ record_laid ++ (opening ∷ copied)
+    pub split : commit_writes frame plan ≡ record_laid ++ (opening ∷ copied)
     split =
         commit_writes-some frame plan some
         ∙ append_assoc (laid frame.start (runs_of plan)) (using ∷ opening ∷ copies plan) (closing frame ∷ [])
@@ -252,7 +252,7 @@ module _ (frame : Frame) (words : List ℕ) (plan : List (ℕ × ℕ)) (is : IsF
         ∙ made-append record_laid (opening ∷ take j copied) words
         ∙ ap (λ (l : List WordWrite). words_after (take j l) opened) (sym opened_repairs)
 
-    whole : words_after (commit_writes frame plan) words ≡ words_after (repairs frame opened) opened
+    pub whole : words_after (commit_writes frame plan) words ≡ words_after (repairs frame opened) opened
     whole =
         ap (λ (l : List WordWrite). words_after l words) split ∙ made-append record_laid (opening ∷ copied) words ∙ ap (λ (l : List WordWrite). words_after l opened) (sym opened_repairs)
 

@@ -6,3 +6,8 @@ pub mod Words
 pub mod Recoveries
 pub mod Commits
 pub mod Outcomes
+pub mod Rights
+pub mod RightCommits
+pub mod Worlds
+pub mod Histories
+pub mod Turns

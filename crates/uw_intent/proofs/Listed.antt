@@ -146,7 +146,7 @@ laid_within : (at len : ℕ) (words : List ℕ) → at + length words ≤ len �
 laid_within at len [] h = All-nil (λ (write : WordWrite). write.at < len)
 laid_within at len (word ∷ words) h = All-cons (λ (write : WordWrite). write.at < len) record { at = at; word = word } (laid (at + 1) words) (omega arith) (laid_within (at + 1) len words (omega arith))
 
-copies_within : (frame : Frame) (len : ℕ) (plan : List (ℕ × ℕ)) → All (λ planned. IsTarget frame len planned.0) plan → All (λ write. write.at < len) (copies plan)
+pub copies_within : (frame : Frame) (len : ℕ) (plan : List (ℕ × ℕ)) → All (λ planned. IsTarget frame len planned.0) plan → All (λ write. write.at < len) (copies plan)
 copies_within frame len [] h = All-nil (λ (write : WordWrite). write.at < len)
 copies_within frame len (p ∷ plan) h =
     All-cons (λ (write : WordWrite). write.at < len) record { at = p.0; word = p.1 } (copies plan) (h 0 (0, 0) (omega arith)).within

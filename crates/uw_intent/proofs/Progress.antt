@@ -27,13 +27,14 @@ pub take_next : (writes : List WordWrite) (k : ℕ) (write : WordWrite) → slic
 take_next writes k write is =
     take_more writes k write (slice_get_within writes k write is) ∙ ap (λ (w : WordWrite). take k writes ++ w ∷ []) (get_or_from_slice_get writes k write write is)
 
-spends_more : (told left after : Option (List ℕ)) (count : ℕ) → Spends told left count → Spends left after 1 → Spends told after (count + 1)
-spends_more told left after count first then = first ∙ ap (option_map (raised count)) then ∙ again after count
+-- so many writes were let through, and then so many more
+pub spends_then : (told mid left : Option (List ℕ)) (early late : ℕ) → Spends told mid early → Spends mid left late → Spends told left (early + late)
+spends_then told mid left early late first then = first ∙ ap (option_map (raised early)) then ∙ again left
   where
-    again : (after : Option (List ℕ)) (count : ℕ) → option_map (raised count) (option_map (raised 1) after) ≡ option_map (raised (count + 1)) after
-    again None count = refl
-    again (Some []) count = refl
-    again (Some (x ∷ xs)) count = ap (λ (n : ℕ). Some (n ∷ xs)) (let e : x + 1 + count ≡ x + (count + 1) = omega arith in e)
+    again : (left : Option (List ℕ)) → option_map (raised early) (option_map (raised late) left) ≡ option_map (raised (early + late)) left
+    again None = refl
+    again (Some []) = refl
+    again (Some (x ∷ xs)) = ap (λ (n : ℕ). Some (n ∷ xs)) (let e : x + late + early ≡ x + (early + late) = omega arith in e)
 
 pub spends_none : (told : Option (List ℕ)) → Spends told told 0
 spends_none None = refl
@@ -52,7 +53,7 @@ module _ (writes : List WordWrite) (before : List ℕ) (told : Option (List ℕ)
     words =
         stored ∙ ap (λ (words : List ℕ). set words write.at write.word) so_far.words ∙ sym (made-append (take count writes) (write ∷ []) before)
         ∙ ap (λ (l : List WordWrite). words_after l before) (sym (take_next writes count write next));
-    spent = spends_more told left later count so_far.spent counted;
+    spent = spends_then told left later count 1 so_far.spent counted;
   }
 
   -- the next write was refused

@@ -34,16 +34,16 @@ module _ (frame : Frame) (words : List ℕ) (is : IsFrame frame (length words)) 
   gate_within : frame.gate < length words
   gate_within = omega (arith, is.gate, is.start, is.within)
 
-  runs_within : AllWithin (length words) runs
+  pub runs_within : AllWithin (length words) runs
   runs_within = all_weaker (λ (w : WordWrite). IsTarget frame (length words) w.at) (λ (w : WordWrite). w.at < length words) runs (λ w target. target.within) whole.targets
 
   pub all_within : AllWithin (length words) all
   all_within = All-append (λ (w : WordWrite). w.at < length words) runs (closing frame ∷ []) runs_within (All-cons (λ (w : WordWrite). w.at < length words) (closing frame) [] gate_within (All-nil (λ (w : WordWrite). w.at < length words)))
 
-  gate_away : AllAway frame.gate runs
+  pub gate_away : AllAway frame.gate runs
   gate_away = all_weaker (λ (w : WordWrite). IsTarget frame (length words) w.at) (λ (w : WordWrite). w.at ≢ frame.gate) runs (λ w target. target.beyond.gate) whole.targets
 
-  used_away : AllAway frame.used runs
+  pub used_away : AllAway frame.used runs
   used_away = all_weaker (λ (w : WordWrite). IsTarget frame (length words) w.at) (λ (w : WordWrite). w.at ≢ frame.used) runs (λ w target. target.beyond.used) whole.targets
 
   -- while words of runs are written

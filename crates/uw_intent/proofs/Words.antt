@@ -21,7 +21,7 @@ AllWithin len writes = All (λ write. write.at < len) writes
 abbrev pub AllAway : ℕ → List WordWrite → Type 0
 AllAway at writes = All (λ write. write.at ≢ at) writes
 
-all_rest : (P : WordWrite → Type 0) (write : WordWrite) (writes : List WordWrite) → All P (write ∷ writes) → All P writes
+pub all_rest : (P : WordWrite → Type 0) (write : WordWrite) (writes : List WordWrite) → All P (write ∷ writes) → All P writes
 all_rest P write writes all = λ k d h. all (suc k) d (omega arith)
 
 pub get_or-made : (writes : List WordWrite) (words : List ℕ) (at : ℕ) → AllWithin (length words) writes → get_or (words_after writes words) at 0 ≡ word_after writes at (get_or words at 0)

@@ -1,3 +1,7 @@
 pub mod Stores
 pub mod RedoRecord
 pub mod CursorSteps
+pub mod Standing
+pub mod RightWrites
+pub mod World
+pub mod CallTurns

@@ -4,6 +4,7 @@
 
 mod cursor;
 mod frame;
+mod kind;
 pub mod laws;
 mod recovery;
 mod redo;
@@ -11,5 +12,6 @@ mod redo;
 mod tests;
 
 pub use frame::{Frame, WordWrite};
+pub use kind::RegionKind;
 pub use recovery::{is_pending, nth_repair, recover};
 pub use redo::{commit, nth_write};
