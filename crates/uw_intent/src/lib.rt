@@ -7,8 +7,6 @@ mod frame;
 pub mod laws;
 mod recovery;
 mod redo;
-#[cfg(test)]
-mod tests;
 
 pub use frame::{Frame, WordWrite};
 pub use recovery::{is_pending, nth_repair, recover};

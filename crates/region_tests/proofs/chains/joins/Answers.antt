@@ -3,7 +3,7 @@ use Rattle.uw_words.specs.Parts.{seen}
 use Rattle.uw_words.proofs.Growth.{spare_room}
 use Rattle.uw_chains.specs.Chains.{link_places}
 use Rattle.uw_chains.proofs.OneChain.{changed}
-use Rattle.uw_chains.proofs.tests.joins.Goals as goal
+use Rattle.region_tests.proofs.chains.joins.Goals as goal
 
 pub link-requires-clause-room : goal.link-requires-clause-room
 link-requires-clause-room g c = spare_room c.args.over.now (link_places (seen c.args.over.now c.args.ram.now) c.args.shape.now c.args.item) (omega arith)

@@ -1,8 +1,8 @@
 // Words, refused words and planned words.
-use crate::{Overlay, Ram, Shape, first_word};
 use std::alloc::{AllocError, Global};
 use std::test::Fail;
 use uw_outside::{Died, Fuse, Immortal, Life};
+use uw_words::{Overlay, Ram, Shape, first_word};
 
 fn words_of(alloc: Global, ram: &Ram) -> Result<Vec<u64>, AllocError> {
     let mut words = Vec::new(alloc);

@@ -3,10 +3,10 @@ ghost use Rattle.std.specs.Prelude.{◌≡◌, ◌∷◌, [], length, IfOk, true
 ghost use Rattle.uw_words.specs.Plans.{region};
 ghost use Rattle.uw_intent.specs.RedoRecord.{IsFrame, IsIntact};
 
-use crate::{Frame, WordWrite, commit, is_pending, laws, nth_repair, nth_write, recover};
 use std::alloc::{AllocError, Global};
 use std::test::Fail;
 use uw_base::Memory;
+use uw_intent::{Frame, WordWrite, commit, is_pending, laws, nth_repair, nth_write, recover};
 use uw_outside::{Fuse, Immortal, Life};
 use uw_words::{Overlay, Ram};
 

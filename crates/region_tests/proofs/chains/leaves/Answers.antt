@@ -4,7 +4,7 @@ use Rattle.uw_words.specs.Parts.{seen}
 use Rattle.uw_words.proofs.Growth.{spare_room}
 use Rattle.uw_chains.specs.Chains.{unlink_places}
 use Rattle.uw_chains.proofs.OneChain.{changed}
-use Rattle.uw_chains.proofs.tests.leaves.Goals as goal
+use Rattle.region_tests.proofs.chains.leaves.Goals as goal
 
 pub unlink-requires-clause-room : goal.unlink-requires-clause-room
 unlink-requires-clause-room g c = λ chains is.

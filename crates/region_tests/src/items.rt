@@ -8,12 +8,12 @@ ghost use Rattle.uw_words.specs.Walks.{item_word};
 ghost use Rattle.uw_items.specs.Items.{LieInBlocks};
 ghost use Rattle.uw_items.specs.FreeList.{IsFreeList};
 
-use crate::{
-    Fields, fields_of, give_free, key_of, laws, put_fields, put_key, put_value, take_free, value_of,
-};
 use std::alloc::Global;
 use std::process::Abort;
 use std::test::Fail;
+use uw_items::{
+    Fields, fields_of, give_free, key_of, laws, put_fields, put_key, put_value, take_free, value_of,
+};
 use uw_outside::Immortal;
 use uw_words::{Overlay, Ram, Shape};
 

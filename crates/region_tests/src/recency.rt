@@ -5,11 +5,11 @@ ghost use Rattle.uw_words.specs.Numbers.{IsOneOf, IsNoneOf, without_number};
 ghost use Rattle.uw_words.specs.Parts.{seen};
 ghost use Rattle.uw_recency.specs.Recency.{IsRecency};
 
-use crate::{last, newest, older, push_front, take_out, to_front};
 use std::alloc::Global;
 use std::process::Abort;
 use std::test::Fail;
 use uw_base::Memory;
+use uw_recency::{last, newest, older, push_front, take_out, to_front};
 use uw_words::{Overlay, Ram, Shape};
 
 // Four items of nine words, from word 21 on.
@@ -102,21 +102,6 @@ fn three(rt: &impl Abort, ram: &Ram, over: &mut Overlay, shape: &Shape)
     front(rt, ram, over, shape, 0, &[2]);
     front(rt, ram, over, shape, 3, &[0, 2]);
     reads(rt, ram, over, shape, &[3, 0, 2]);
-}
-
-#[test]
-fn the_first_a_middle_and_the_last_item_come_to_the_front(rt: HostRuntime) -> Result<(), Fail> {
-    let shape = small_shape();
-    let ram = Ram::new(rt.alloc(), 489)?;
-    let mut over = Overlay::new(rt.alloc(), 40)?;
-    three(&rt, &ram, &mut over, &shape);
-    again(&rt, &ram, &mut over, &shape, 3, &[3, 0, 2]);
-    reads(&rt, &ram, &over, &shape, &[3, 0, 2]);
-    again(&rt, &ram, &mut over, &shape, 0, &[3, 0, 2]);
-    reads(&rt, &ram, &over, &shape, &[0, 3, 2]);
-    again(&rt, &ram, &mut over, &shape, 2, &[0, 3, 2]);
-    reads(&rt, &ram, &over, &shape, &[2, 0, 3]);
-    Ok(())
 }
 
 #[test]

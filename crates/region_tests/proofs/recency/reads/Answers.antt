@@ -2,7 +2,7 @@ use Rattle.std.proofs.Common.{◌+◌}
 use Rattle.uw_words.specs.Parts.{seen}
 use Rattle.uw_words.proofs.Links.{walk_short}
 use Rattle.uw_words.proofs.Numbers.{one_at}
-use Rattle.uw_recency.proofs.tests.reads.Goals as goal
+use Rattle.region_tests.proofs.recency.reads.Goals as goal
 
 pub older-requires-clause-item : goal.older-requires-clause-item
 older-requires-clause-item g c =

@@ -1,7 +1,7 @@
 use Rattle.std.proofs.Common.{◌≡◌, ◌+◌, ◌*◌, ℕ, ap, sym, ◌∙◌, arith}
 use Rattle.uw_words.specs.Plans.{region}
 use Rattle.uw_words.specs.Walks.{item_word}
-use Rattle.uw_items.proofs.tests.lies.Goals as goal
+use Rattle.region_tests.proofs.items.lies.Goals as goal
 
 pub returns : goal.returns
 returns g c =

@@ -6,11 +6,11 @@ ghost use Rattle.uw_words.specs.Parts.{seen};
 ghost use Rattle.uw_words.specs.Records.{HoldsKey};
 ghost use Rattle.uw_chains.specs.Chains.{IsChains};
 
-use crate::{find, link, unlink};
 use std::alloc::Global;
 use std::process::Abort;
 use std::test::Fail;
 use uw_base::{Memory, djb33x};
+use uw_chains::{find, link, unlink};
 use uw_words::{Overlay, Ram, Shape, first_word};
 
 // One chain, and four items of nine words from word 18 on.

@@ -2,10 +2,10 @@
 ghost use Rattle.std.specs.Prelude.{◌≡◌, ◌<◌, ◌^◌, length};
 ghost use Rattle.uw_words.specs.Shapes.{IsShape, shape_words};
 
-use crate::{first_run, laws, mark, unmark};
 use std::alloc::Global;
 use std::test::Fail;
 use uw_base::Memory;
+use uw_bitmap::{first_run, laws, mark, unmark};
 use uw_words::{Overlay, Ram, Shape};
 
 // A region of so many blocks of one word, one chain and one item.
