@@ -5,8 +5,6 @@ mod bits;
 pub mod laws;
 mod run;
 mod search;
-#[cfg(test)]
-mod tests;
 
 pub use run::{mark, unmark};
 pub use search::first_run;

@@ -5,8 +5,6 @@
 mod chains;
 pub mod laws;
 mod search;
-#[cfg(test)]
-mod tests;
 
 pub use chains::{link, unlink};
 pub use search::find;

@@ -8,8 +8,6 @@ mod kind;
 pub mod laws;
 mod recovery;
 mod redo;
-#[cfg(test)]
-mod tests;
 
 pub use frame::{Frame, WordWrite};
 pub use kind::RegionKind;

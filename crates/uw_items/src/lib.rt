@@ -5,8 +5,6 @@
 mod free;
 pub mod laws;
 mod records;
-#[cfg(test)]
-mod tests;
 mod texts;
 
 pub use free::{give_free, take_free};

@@ -4,7 +4,5 @@
 
 pub mod laws;
 mod recency;
-#[cfg(test)]
-mod tests;
 
 pub use recency::{last, newest, older, push_front, take_out, to_front};

@@ -8,8 +8,6 @@ mod ram;
 mod shape;
 mod sieve;
 mod slots;
-#[cfg(test)]
-mod tests;
 mod texts;
 
 pub use overlay::Overlay;
