@@ -7,9 +7,7 @@ use Rattle.uw_model.specs.declared.calls.Answer.{Answer}
 use Rattle.uw_model.specs.declared.asks.Asked.{Asked}
 use Rattle.uw_model.specs.declared.asks.AskAnswer.{AskAnswer}
 use Rattle.uw_model.specs.declared.asks.AskAnswer.TheVariants as ask_answers
-use Rattle.uw_model.specs.Asks.{DeskParts}
 use Rattle.uw_model.specs.ListState.{ListState}
-use Rattle.uw_model.specs.Lists.{Lists}
 use Rattle.uw_model.specs.Caches.{empty_caches}
 use Rattle.uw_conf.specs.declared.conf.Options.{Options}
 use Rattle.uw_ends.specs.declared.ends.RunFault.{RunFault}
@@ -21,10 +19,6 @@ use Rattle.uw_session.specs.Exchange.{Exchange, IsAccepted, header_refusal}
 use Rattle.uw_top.specs.Pipe.{bad_packet_of}
 use Rattle.uw_top.specs.Replying.{reply_of}
 use Rattle.uw_top.specs.Load.{figures_from, next_number, no_figures, packets_from}
-
--- how many caches and how many areas plain lists have
-abbrev pub parts_of_lists : Lists → DeskParts
-parts_of_lists lists = record { caches = length lists.caches; areas = length lists.areas }
 
 -- the caches after packets of commands
 abbrev pub caches_from : Options → List ListState → List Exchange → List ListState

@@ -4,6 +4,7 @@ ghost use Rattle.std.specs.Fmt.{decimal};
 ghost use Rattle.uw_outside.specs.Faults.{HasCause};
 ghost use Rattle.uw_outside.specs.Streams.{outflow};
 ghost use Rattle.uw_model.specs.Caches.{empty_caches};
+ghost use Rattle.uw_model.specs.Lists.{parts_of};
 ghost use Rattle.uw_rules.specs.PartNumbers.{AskPartsBelow};
 ghost use Rattle.uw_rules.specs.Compiled.{rules_of};
 ghost use Rattle.uw_chain.specs.KeptSearches.{FitTable};
@@ -12,7 +13,7 @@ ghost use Rattle.uw_conf.specs.Sound.{ArePartsOfSite};
 ghost use Rattle.uw_session.specs.Exchange.{HasParts, IsSiteOf, Site};
 ghost use Rattle.uw_top.specs.Load.{LoadRun, block_for, command_for, figure_line, figures_text, head_for, next_number, no_figures, packet_for, variables_for, with_reply};
 ghost use Rattle.uw_top.specs.Pipe.{has_failed_to_write};
-ghost use Rattle.uw_top.specs.LoadSteps.{AnswersNumber, AreCounted, CanCount, WritesText, answer_behind, parts_of_lists};
+ghost use Rattle.uw_top.specs.LoadSteps.{AnswersNumber, AreCounted, CanCount, WritesText, answer_behind};
 
 use itoa::Buffer;
 use std::alloc::Global;
@@ -113,12 +114,12 @@ fn answer_number<'c>(
 ) -> Result<Answered, RunFault>
     requires number { x < 2 ^ 31 }
     requires few { length conf.now.caches < 2 ^ 32 }
-    requires enough { HasParts (parts_of_lists desk.old) conf.now }
+    requires enough { HasParts (parts_of desk.old) conf.now }
     requires fits { FitTable conf.now.routes searches.old }
-    requires known { AskPartsBelow (parts_of_lists desk.old) (rules_of conf.now.routes) }
+    requires known { AskPartsBelow (parts_of desk.old) (rules_of conf.now.routes) }
     ensures answer { (site : Site) → IsSiteOf conf.now site → AnswersNumber site.options desk.old.caches desk.new.caches (packet_for moment x) result }
     ensures fits { FitTable conf.now.routes searches.new }
-    ensures parts { parts_of_lists desk.new ≡ parts_of_lists desk.old }
+    ensures parts { parts_of desk.new ≡ parts_of desk.old }
 {
     let packet = packet_for(alloc, x)?;
     let size = u32::from(packet.head.size);
@@ -255,7 +256,7 @@ fn load_with<'c, K: Sink, C: Clock>(
 ) -> Option<RunFault>
     requires few { length conf.now.caches < 2 ^ 32 }
     requires caches { desk.old.caches ≡ empty_caches conf.now.caches }
-    requires parts { parts_of_lists desk.old ≡ parts_in conf.now }
+    requires parts { parts_of desk.old ≡ parts_in conf.now }
     requires fits { FitTable conf.now.routes searches.old }
     requires known { AskPartsBelow (parts_in conf.now) (rules_of conf.now.routes) }
     requires first { first < 2 ^ 31 }

@@ -11,7 +11,6 @@ use Rattle.uw_conf.specs.Given.{parts_in}
 use Rattle.uw_ends.specs.declared.ends.Brief.{Brief}
 use Rattle.uw_session.specs.Exchange.{HasParts}
 use Rattle.uw_top.specs.Pipe.{PipeRun, both_lead, first_lists, list_leads, unbounded}
-use Rattle.uw_top.specs.LoadSteps.{parts_of_lists}
 use Rattle.uw_top.proofs.Machine.{nothing_done}
 use Rattle.uw_top.proofs.Parts.{empty_parts, has_own_parts}
 use Rattle.uw_top.proofs.runs.piped.Goals as goal
