@@ -102,8 +102,8 @@ pub RunsTo-unanswered : {X : Type 0} → (T : Type 0) (led : List Asking → ℕ
     (next : AskAnswer → Course X) (end : ChainEnd) → AsksOnce {T = T} led before now moment ask list after (Err end)
     → RunsTo led before now moment (asking ask next) list after (Err end)
 RunsTo-unanswered T led before now moment ask list after next (chains.Died true) h =
-    ([], h.0 ∙ sym (append-nil list), (h.1, (h.2.0, (ask, next, refl, h.2.1))))
-RunsTo-unanswered T led before now moment ask list after next (chains.Died false) h = ([], h.0 ∙ sym (append-nil list), (h.1, (ask, next, refl, h.2)))
+    ([], h.0 ∙ sym (append-nil list), (h.1, (h.2.0, (ask, next, refl, h.2.1, h.3))))
+RunsTo-unanswered T led before now moment ask list after next (chains.Died false) h = ([], h.0 ∙ sym (append-nil list), (h.1, (ask, next, refl, h.2, h.3)))
 RunsTo-unanswered T led before now moment ask list after next chains.Memory h =
     ([], h.0 ∙ sym (append-nil list), elim h.1 [ inl none ↦ inl (asking ask next, refl, none) | inr one ↦ inr (ask, next, refl, one) ])
 
@@ -136,10 +136,10 @@ pub RunsTo-fault : {X Y : Type 0} → (led : List Asking → ℕ → Type 0) (be
     → RunsTo led before now moment (and_then course next) list after (Err end)
 RunsTo-fault led before now moment course next list after (chains.Died true) h =
     let why = h.2.1.1 in
-    (h.0, h.1, (h.2.0, (h.2.1.0, (why.0, λ answer. and_then (why.1 answer) next, Unfolds-then course h.0 (asking why.0 why.1) next why.2, why.3))))
+    (h.0, h.1, (h.2.0, (h.2.1.0, (why.0, λ answer. and_then (why.1 answer) next, Unfolds-then course h.0 (asking why.0 why.1) next why.2, why.3, why.4))))
 RunsTo-fault led before now moment course next list after (chains.Died false) h =
     let why = h.2.1 in
-    (h.0, h.1, (h.2.0, (why.0, λ answer. and_then (why.1 answer) next, Unfolds-then course h.0 (asking why.0 why.1) next why.2, why.3)))
+    (h.0, h.1, (h.2.0, (why.0, λ answer. and_then (why.1 answer) next, Unfolds-then course h.0 (asking why.0 why.1) next why.2, why.3, why.4)))
 RunsTo-fault led before now moment course next list after chains.Memory h = (
   h.0,
   h.1,
@@ -176,7 +176,7 @@ RunsTo-then led first_led late_led before middle now moment course next list bet
     leads others h = Led-more led first_led late_led before middle now moment first.0 more.0 others adds first.2.1 h
 
     stops : (end : ChainEnd) → Stops late_led middle now moment (next result) more.0 end → Stops led before now moment (and_then course next) (first.0 ++ more.0) end
-    stops (chains.Died true) h = (h.0, (h.1.0, (h.1.1.0, h.1.1.1, reaches _ h.1.1.2, leads _ h.1.1.3)))
-    stops (chains.Died false) h = (h.0, (h.1.0, h.1.1, reaches _ h.1.2, leads _ h.1.3))
+    stops (chains.Died true) h = (h.0, (h.1.0, (h.1.1.0, h.1.1.1, reaches _ h.1.1.2, leads _ h.1.1.3, h.1.1.4)))
+    stops (chains.Died false) h = (h.0, (h.1.0, h.1.1, reaches _ h.1.2, leads _ h.1.3, h.1.4))
     stops chains.Memory h =
         elim h [ inl short ↦ inl (short.0, reaches short.0 short.1, leads [] short.2) | inr why ↦ inr (why.0, why.1, reaches _ why.2, leads _ why.3) ]

@@ -16,7 +16,7 @@ use Rattle.uw_model.specs.declared.asks.AskAnswer.TheVariants as ask_answers
 use Rattle.uw_model.specs.declared.asks.Asked.{Asked}
 use Rattle.uw_model.specs.declared.asks.SpoolAnswer.{SpoolAnswer}
 use Rattle.uw_model.specs.declared.asks.SpoolAnswer.TheVariants as spools
-use Rattle.uw_model.specs.Asks.{AskEnd, Asking, answered, died_absent, died_whole, no_memory, IsUnanswered, Leads, Led, counted_answer, is_of_desk, of_desk}
+use Rattle.uw_model.specs.Asks.{AskEnd, Asking, DeskParts, answered, died_absent, died_whole, no_memory, IsOfPart, IsUnanswered, Leads, Led, counted_answer, is_of_desk, of_desk}
 use Rattle.uw_chain.specs.declared.faults.ChainEnd.TheVariants as chains
 use Rattle.uw_chain.specs.declared.faults.ChainEnd.{ChainEnd}
 use Rattle.uw_chain.specs.Runs.{AsksOnce}
@@ -36,6 +36,7 @@ kept_none before = record {
   rows = told_none before.rows;
   failed = omega arith;
   later = omega arith;
+  same = λ none. refl;
   others = refl;
 }
 
@@ -67,6 +68,8 @@ kept_more before middle now early late first more = record {
       subst (λ (count : ℕ). min (before.append_faults + count) (2 ^ 64 - 1) ≤ now.append_faults) (sym (failed-append early late))
       (counts_more before.append_faults middle.append_faults now.append_faults (failed_tasks early) (failed_tasks late) (2 ^ 64 - 1) first.failed more.failed);
   later = omega (arith, first.later, more.later);
+  same = λ none.
+      let sum = failed-append early late in more.same (omega (arith, none, sum)) ∙ first.same (omega (arith, none, sum));
   others = more.others ∙ first.others;
 }
 
@@ -95,6 +98,12 @@ site_more leads rows appends others adds a b c early late first more h other = (
 
 -- ---- one ask of a desk
 
+-- an ask of a cache or an area that a desk has is one of a desk
+pub part_of_desk : (parts : DeskParts) (ask : Ask) → IsOfPart parts ask → is_of_desk ask ≡ true
+part_of_desk parts (asks.Cache cache call) known = refl
+part_of_desk parts (asks.Area area op) known = refl
+part_of_desk parts (asks.Spool vars body) known = absurd known
+
 desk_leads : (led : List Asking → ℕ → Type 0) (kept : List Asking → Type 0) (before now : Option (List ℕ)) (moment : ℕ) (ask : Ask) (end : AskEnd)
     → is_of_desk ask ≡ true → kept [] → Leads led before now moment ask end → Leads (both_led led kept) before now moment ask end
 desk_leads led kept before now moment (asks.Cache cache call) end of none h = (h.0, (h.1, none), h.2)
@@ -107,9 +116,9 @@ pub desk_asked : {T : Type 0} → (led : List Asking → ℕ → Type 0) (kept :
     → AsksOnce (both_led led kept) before now moment ask list after result
 desk_asked led kept before now moment ask list after (Ok done) of none h = (h.0, h.1, desk_leads led kept before now moment ask (answered h.0) of none h.2)
 desk_asked led kept before now moment ask list after (Err (chains.Died true)) of none h =
-    (h.0, h.1, (h.2.0, desk_leads led kept before now moment ask (died_whole h.2.0) of none h.2.1))
+    (h.0, h.1, (h.2.0, desk_leads led kept before now moment ask (died_whole h.2.0) of none h.2.1), h.3)
 desk_asked led kept before now moment ask list after (Err (chains.Died false)) of none h =
-    (h.0, h.1, desk_leads led kept before now moment ask died_absent of none h.2)
+    (h.0, h.1, desk_leads led kept before now moment ask died_absent of none h.2, h.3)
 desk_asked led kept before now moment ask list after (Err chains.Memory) of none h = (
   h.0,
   elim h.1 [
@@ -138,6 +147,7 @@ kept_moment before now moment vars body answer h = record {
   rows = told_moment before.rows now.rows moment vars body answer h.rows;
   failed = h.failed;
   later = h.later;
+  same = h.same;
   others = h.others;
 }
 
@@ -167,7 +177,7 @@ task_later before now vars body list after (Err memory) h =
 
 told_put : (told now : Option (List Row)) (number : ℕ) (vars : List Pair) (body bytes : List ℕ) → bytes ≡ row_bytes vars body → Appends told now bytes (Ok number)
     → LeadsTold told (asking_task 0 vars body (spools.Put number) ∷ []) now
-told_put None now number vars body bytes row h = subst (λ (t : Option (List Row)). LeadsTold None (asking_task 0 vars body (spools.Put number) ∷ []) t) (sym h) tt
+told_put None now number vars body bytes row h = subst (λ (t : Option (List Row)). LeadsTold None (asking_task 0 vars body (spools.Put number) ∷ []) t) (sym h.0) tt
 told_put (Some rows) now number vars body bytes row h =
     let behind : List ℕ → List Row = λ l. rows ++ record { number = number; bytes = l } ∷ [] in
     subst (λ (t : Option (List Row)). LeadsTold (Some rows) (asking_task 0 vars body (spools.Put number) ∷ []) t) (sym (h.2 ∙ ap (λ (l : List ℕ). Some (behind l)) row))
@@ -183,6 +193,7 @@ kept_put before now number vars body bytes row appended cause others =
       rows = told_put before.rows now.rows number vars body bytes row appended;
       failed = omega (arith, same);
       later = cause.later;
+      same = λ none. same;
       others = others;
     }
 
@@ -201,6 +212,7 @@ kept_full before now vars body bytes appended cause others =
       rows = told_full before.rows now.rows vars body bytes appended;
       failed = omega (arith, same);
       later = cause.later;
+      same = λ none. same;
       others = others;
     }
 
@@ -218,6 +230,7 @@ kept_failed before now vars body same cause others =
       rows = told_failed before.rows now.rows vars body same;
       failed = omega (arith, rose);
       later = cause.later;
+      same = λ none. absurd (omega (arith, none));
       others = others;
     }
 

@@ -1,5 +1,5 @@
 // The action of a rule.
-ghost use Rattle.std.specs.Prelude.{◌≡◌, not, true, false, IfOk};
+ghost use Rattle.std.specs.Prelude.{◌≡◌, ◌≤◌, not, true, false, IfOk};
 ghost use Rattle.uw_outside.specs.Faults.{HasCause};
 ghost use Rattle.uw_rules.specs.PartNumbers.{ActionAsksBelow};
 ghost use Rattle.uw_chain.specs.declared.outcome.Outcome.TheVariants as outcomes;
@@ -192,6 +192,8 @@ fn act_by_asking<D: Desk, P: Keeper, L: Life>(
     ensures alive { L.alive life.new ≡ not (has_died_following result) }
     ensures parts { D.parts desk.new ≡ D.parts desk.old }
     ensures settled { D.settled desk.old ≡ true → has_died_following result ≡ false → D.settled desk.new ≡ true }
+    ensures later { P.append_faults keep.old ≤ P.append_faults keep.new }
+    ensures others { P.other_faults keep.new ≡ P.other_faults keep.old }
 {
     let Some(want) = wanted(alloc, action, captures, moment, &request)? else {
         return Ok(Outcome::Ends(Ending::Failing, request));
@@ -241,6 +243,8 @@ pub fn act<D: Desk, P: Keeper, L: Life>(
     ensures alive { L.alive life.new ≡ not (has_died_following result) }
     ensures parts { D.parts desk.new ≡ D.parts desk.old }
     ensures settled { D.settled desk.old ≡ true → has_died_following result ≡ false → D.settled desk.new ≡ true }
+    ensures later { P.append_faults keep.old ≤ P.append_faults keep.new }
+    ensures others { P.other_faults keep.new ≡ P.other_faults keep.old }
 {
     if is_asking(action) {
         act_by_asking(

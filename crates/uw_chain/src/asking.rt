@@ -51,6 +51,7 @@ pub fn ask<D: Desk, P: Keeper, L: Life>(
 }
 
 // Makes an ask of a desk.
+#[tactic(auto, using(crate::proofs::SpoolLemmas::part_of_desk))]
 fn ask_desk<D: Desk, L: Life>(
     alloc: Global,
     ask: Ask,
@@ -119,6 +120,8 @@ pub fn ask_cache<D: Desk, P: Keeper, L: Life>(
     ensures alive { L.alive life.new ≡ not (has_died_following result) }
     ensures parts { D.parts desk.new ≡ D.parts desk.old }
     ensures settled { D.settled desk.old ≡ true → has_died_following result ≡ false → D.settled desk.new ≡ true }
+    ensures later { P.append_faults keep.old ≤ P.append_faults keep.new }
+    ensures others { P.other_faults keep.new ≡ P.other_faults keep.old }
 {
     let cache = cache.unwrap_or(0);
     ask(

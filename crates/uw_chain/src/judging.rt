@@ -1,5 +1,5 @@
 // The test of a rule.
-ghost use Rattle.std.specs.Prelude.{◌≡◌, [], List, ℕ, Option, not, true, false, IfOk};
+ghost use Rattle.std.specs.Prelude.{◌≡◌, ◌≤◌, [], List, ℕ, Option, not, true, false, IfOk};
 ghost use Rattle.uw_outside.specs.Faults.{HasCause};
 ghost use Rattle.uw_rules.specs.declared.grammar.ConditionName.{ConditionName};
 ghost use Rattle.uw_rules.specs.PartNumbers.{ConditionAsksBelow, IsNumberBelow, TestAsksBelow};
@@ -204,6 +204,8 @@ fn judge_cache<D: Desk, P: Keeper, L: Life>(
     ensures alive { L.alive life.new ≡ not (has_died_following result) }
     ensures parts { D.parts desk.new ≡ D.parts desk.old }
     ensures settled { D.settled desk.old ≡ true → has_died_following result ≡ false → D.settled desk.new ≡ true }
+    ensures later { P.append_faults keep.old ≤ P.append_faults keep.new }
+    ensures others { P.other_faults keep.new ≡ P.other_faults keep.old }
 {
     let Some(key) = filling.text(alloc, key)? else {
         return Ok(Verdict::Overlong);
@@ -255,6 +257,8 @@ fn judge_condition<'r, D: Desk, P: Keeper, L: Life>(
     ensures alive { L.alive life.new ≡ not (has_died_following result) }
     ensures parts { D.parts desk.new ≡ D.parts desk.old }
     ensures settled { D.settled desk.old ≡ true → has_died_following result ≡ false → D.settled desk.new ≡ true }
+    ensures later { P.append_faults keep.old ≤ P.append_faults keep.new }
+    ensures others { P.other_faults keep.new ≡ P.other_faults keep.old }
 {
     match condition {
         Condition::Regexp { text, pattern } => {
@@ -291,6 +295,8 @@ pub fn judge<'r, D: Desk, P: Keeper, L: Life>(
     ensures alive { L.alive life.new ≡ not (has_died_following result) }
     ensures parts { D.parts desk.new ≡ D.parts desk.old }
     ensures settled { D.settled desk.old ≡ true → has_died_following result ≡ false → D.settled desk.new ≡ true }
+    ensures later { P.append_faults keep.old ≤ P.append_faults keep.new }
+    ensures others { P.other_faults keep.new ≡ P.other_faults keep.old }
 {
     match test {
         Test::Always => Ok(Verdict::Met(BytesList::new(alloc))),

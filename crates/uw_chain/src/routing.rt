@@ -1,5 +1,5 @@
 // A request, or a task, on its way through a table of rules.
-ghost use Rattle.std.specs.Prelude.{◌≡◌, List, not, true, false};
+ghost use Rattle.std.specs.Prelude.{◌≡◌, ◌≤◌, List, not, true, false};
 ghost use Rattle.uw_outside.specs.Faults.{HasCause};
 ghost use Rattle.uw_rules.specs.PartNumbers.{AskPartsBelow, RuleAsksBelow};
 ghost use Rattle.uw_rules.specs.Compiled.{IsRuleOf, rules_of};
@@ -51,6 +51,8 @@ fn run_rule<'r, D: Desk, P: Keeper, L: Life>(
     ensures alive { L.alive life.new ≡ not (has_died_following result) }
     ensures parts { D.parts desk.new ≡ D.parts desk.old }
     ensures settled { D.settled desk.old ≡ true → has_died_following result ≡ false → D.settled desk.new ≡ true }
+    ensures later { P.append_faults keep.old ≤ P.append_faults keep.new }
+    ensures others { P.other_faults keep.new ≡ P.other_faults keep.old }
 {
     let Rule::Act { test, action } = rule else {
         return Ok(Outcome::GoesOn(request));
@@ -99,6 +101,8 @@ fn run_rules<'r, D: Desk, P: Keeper, L: Life>(
     ensures alive { L.alive life.new ≡ not (has_died_following result) }
     ensures parts { D.parts desk.new ≡ D.parts desk.old }
     ensures settled { D.settled desk.old ≡ true → has_died_following result ≡ false → D.settled desk.new ≡ true }
+    ensures later { P.append_faults keep.old ≤ P.append_faults keep.new }
+    ensures others { P.other_faults keep.new ≡ P.other_faults keep.old }
 {
     let mut request = first;
     let mut at = 0;
@@ -152,6 +156,8 @@ fn end_request<'r, D: Desk, P: Keeper, L: Life>(
     ensures alive { L.alive life.new ≡ not (has_died_following result) }
     ensures parts { D.parts desk.new ≡ D.parts desk.old }
     ensures settled { D.settled desk.old ≡ true → has_died_following result ≡ false → D.settled desk.new ≡ true }
+    ensures later { P.append_faults keep.old ≤ P.append_faults keep.new }
+    ensures others { P.other_faults keep.new ≡ P.other_faults keep.old }
 {
     let request = Request::new(alloc, vars);
     match run_rules(alloc, slots, rules, moment, request, asks, desk, keep, life) {
@@ -186,6 +192,8 @@ fn end_task<'r, D: Desk, P: Keeper, L: Life>(
     ensures alive { L.alive life.new ≡ not (has_died_following result) }
     ensures parts { D.parts desk.new ≡ D.parts desk.old }
     ensures settled { D.settled desk.old ≡ true → has_died_following result ≡ false → D.settled desk.new ≡ true }
+    ensures later { P.append_faults keep.old ≤ P.append_faults keep.new }
+    ensures others { P.other_faults keep.new ≡ P.other_faults keep.old }
 {
     let request = Request::new(alloc, vars);
     match run_rules(alloc, slots, rules, moment, request, asks, desk, keep, life) {
@@ -216,6 +224,8 @@ pub fn route_with<'r, D: Desk, P: Keeper, L: Life>(
     ensures alive { L.alive life.new ≡ not (has_died_routing result) }
     ensures parts { D.parts desk.new ≡ D.parts desk.old }
     ensures settled { D.settled desk.old ≡ true → has_died_routing result ≡ false → D.settled desk.new ≡ true }
+    ensures later { P.append_faults keep.old ≤ P.append_faults keep.new }
+    ensures others { P.other_faults keep.new ≡ P.other_faults keep.old }
 {
     let mut asks = AskList::new(alloc);
     let slots = searches.slots.as_mut_slice();
@@ -251,6 +261,8 @@ pub fn route<D: Desk, P: Keeper, L: Life>(
     ensures alive { L.alive life.new ≡ not (has_died_routing result) }
     ensures parts { D.parts desk.new ≡ D.parts desk.old }
     ensures settled { D.settled desk.old ≡ true → has_died_routing result ≡ false → D.settled desk.new ≡ true }
+    ensures later { P.append_faults keep.old ≤ P.append_faults keep.new }
+    ensures others { P.other_faults keep.new ≡ P.other_faults keep.old }
 {
     match Searches::new(alloc, table) {
         Ok(mut searches) => route_with(alloc, &mut searches, table, vars, moment, life, desk, keep),
@@ -283,6 +295,8 @@ pub fn run_task_with<'r, D: Desk, P: Keeper, L: Life>(
     ensures alive { L.alive life.new ≡ not (has_died_in_task result) }
     ensures parts { D.parts desk.new ≡ D.parts desk.old }
     ensures settled { D.settled desk.old ≡ true → has_died_in_task result ≡ false → D.settled desk.new ≡ true }
+    ensures later { P.append_faults keep.old ≤ P.append_faults keep.new }
+    ensures others { P.other_faults keep.new ≡ P.other_faults keep.old }
 {
     let mut asks = AskList::new(alloc);
     let slots = searches.slots.as_mut_slice();
@@ -313,6 +327,8 @@ pub fn run_task<D: Desk, P: Keeper, L: Life>(
     ensures alive { L.alive life.new ≡ not (has_died_in_task result) }
     ensures parts { D.parts desk.new ≡ D.parts desk.old }
     ensures settled { D.settled desk.old ≡ true → has_died_in_task result ≡ false → D.settled desk.new ≡ true }
+    ensures later { P.append_faults keep.old ≤ P.append_faults keep.new }
+    ensures others { P.other_faults keep.new ≡ P.other_faults keep.old }
 {
     match Searches::new(alloc, table) {
         Ok(mut searches) => run_task_with(

@@ -1,5 +1,5 @@
 // A keeper over a folder of files. It tells nothing: no contract can say what a file system holds.
-ghost use Rattle.std.specs.Prelude.{◌≡◌, ◌<◌, None, IfOk, IfSome, Err};
+ghost use Rattle.std.specs.Prelude.{◌≡◌, ◌<◌, ◌≤◌, None, IfOk, IfSome, Err};
 ghost use Rattle.uw_outside.specs.Faults.{HasCause};
 ghost use Rattle.uw_keeper.specs.declared.keeper.Row.{Row};
 ghost use Rattle.uw_keeper.specs.FolderSteps.{IsOfFolder};
@@ -139,7 +139,8 @@ impl<R: Files + AllocGlobal + Clone + Drop> FolderKeeper<R> {
 
     // The number for a row behind the last one, if there is one.
     fn next_number(&mut self, alloc: Global) -> Result<Option<u64>, FolderFault>
-        ensures { self.new ≡ self.old }
+        ensures same { self.new ≡ self.old }
+        ensures number { IfOk result (λ next. IfSome next (λ number. 1 ≤ number)) }
     {
         if self.last.is_none() {
             self.list(alloc)?;
@@ -150,7 +151,8 @@ impl<R: Files + AllocGlobal + Clone + Drop> FolderKeeper<R> {
     // Puts a row behind the last one: writes its bytes to a new file, and then gives that file the row's name. So the
     // row is whole as soon as it is there.
     fn append_row(&mut self, alloc: Global, bytes: &[u8]) -> Result<Option<u64>, FolderFault>
-        ensures { self.new ≡ self.old }
+        ensures same { self.new ≡ self.old }
+        ensures number { IfOk result (λ next. IfSome next (λ number. 1 ≤ number)) }
     {
         let Some(number) = self.next_number(alloc)? else {
             return Ok(None);
@@ -185,7 +187,8 @@ impl<R: Files + AllocGlobal + Clone + Drop> FolderKeeper<R> {
     // Gives a written file the name of the row behind the last one. A link is made only where the name is free, so no
     // program takes a name that another one has.
     fn name_row(&mut self, alloc: Global, new: &str) -> Result<Option<u64>, FolderFault>
-        ensures { self.new ≡ self.old }
+        ensures same { self.new ≡ self.old }
+        ensures number { IfOk result (λ next. IfSome next (λ number. 1 ≤ number)) }
     {
         for _ in 0..TRIES {
             let Some(number) = self.next_number(alloc)? else {

@@ -1,5 +1,5 @@
 -- The plain lists of a desk, and the asks that lead from lists to lists.
-use Rattle.std.specs.Prelude.{◌≡◌, ℕ, List, [], ◌∷◌, ◌++◌, IfSome, is_some, if◌then◌else◌}
+use Rattle.std.specs.Prelude.{◌≡◌, ℕ, List, [], ◌∷◌, ◌++◌, length, IfSome, is_some, if◌then◌else◌}
 use Rattle.std.proofs.Common.{subst}
 use Rattle.uw_model.specs.declared.conf.CacheConf.{CacheConf}
 use Rattle.uw_model.specs.declared.asks.Ask.{Ask}
@@ -10,13 +10,17 @@ use Rattle.uw_model.specs.declared.asks.SpoolAnswer.TheVariants as spools
 use Rattle.uw_model.specs.ListState.{ListState}
 use Rattle.uw_model.specs.AreaOps.{AreaState}
 use Rattle.uw_model.specs.Areas.{area_answer_in, areas_after, blank_areas}
-use Rattle.uw_model.specs.Asks.{Asking, counted_answer}
+use Rattle.uw_model.specs.Asks.{Asking, DeskParts, counted_answer}
 use Rattle.uw_model.specs.Caches.{answer_in, caches_after, empty_caches}
 
 -- the plain lists of a desk: of each cache its entries, and of each area its bytes
 pub record Lists : Type 0 where
   pub caches : List ListState
   pub areas : List AreaState
+
+-- how many caches and areas the lists are of
+abbrev pub parts_of : Lists → DeskParts
+parts_of lists = record { caches = length lists.caches; areas = length lists.areas }
 
 -- an empty cache for each configuration, and an area of zero bytes for each size
 abbrev pub empty_lists : List CacheConf → List ℕ → Lists

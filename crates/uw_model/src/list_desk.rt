@@ -1,9 +1,13 @@
 // The plain form of a desk: plain caches and plain areas.
-ghost use Rattle.std.specs.Prelude.{◌≡◌, ◌<◌, ◌^◌, length, IfOk, true, refl};
+ghost use Rattle.std.specs.Prelude.{◌≡◌, ◌<◌, ◌^◌, ℕ, List, length, IfOk, true, not, refl};
 ghost use Rattle.std.specs.List.{AllByRecursion};
 ghost use Rattle.uw_model.specs.Entries.{IsCacheConf};
 ghost use Rattle.uw_model.specs.AreaOps.{IsAreaSize};
-ghost use Rattle.uw_model.specs.Lists.{LeadsLists, LeadsLists-append, empty_lists};
+ghost use Rattle.uw_model.specs.declared.asks.Ask.TheVariants as asks;
+ghost use Rattle.uw_model.specs.declared.asks.AskAnswer.TheVariants as ask_answers;
+ghost use Rattle.uw_model.specs.Asks.{Asking, Calls, has_died};
+ghost use Rattle.uw_model.specs.Lists.{LeadsLists, LeadsLists-append, empty_lists, parts_of};
+ghost use Rattle.uw_outside.specs.Faults.{HasCause};
 
 use crate::list_area::ListArea;
 use crate::{Answer, AreaAnswer, AreaOp, CacheConfList, Call, Desk, DeskFault, ListCache};
@@ -55,7 +59,7 @@ impl ListDesk {
 }
 
 impl Desk for ListDesk {
-    ghost parts = { λ d. record { caches = length d.caches; areas = length d.areas } };
+    ghost parts = { λ d. parts_of d };
 
     ghost settled = { λ _. true };
 
@@ -68,7 +72,16 @@ impl Desk for ListDesk {
         moment: u64,
         call: &Call,
         life: &mut L,
-    ) -> Result<Answer, DeskFault> {
+    ) -> Result<Answer, DeskFault>
+        requires known { cache < length self.old.caches }
+        requires alive { L.alive life.old ≡ true }
+        ensures asked { Calls (λ answer. ask_answers.Cache answer) (λ (asked : List Asking) (_ : ℕ). LeadsLists self.old asked self.new) (L.allowances life.old) (L.allowances life.new)
+            moment (asks.Cache cache call.now) result }
+        ensures cause { HasCause (L.deaths life.old) (L.deaths life.new) (has_died result) }
+        ensures alive { L.alive life.new ≡ not (has_died result) }
+        ensures parts { parts_of self.new ≡ parts_of self.old }
+        ensures life { life.new ≡ life.old }
+    {
         match self.caches[cache as usize].call(alloc, moment, call) {
             Ok(answer) => Ok(answer),
             Err(Memory) => Err(DeskFault::Memory),
@@ -81,7 +94,16 @@ impl Desk for ListDesk {
         area: u32,
         op: &AreaOp,
         life: &mut L,
-    ) -> Result<AreaAnswer, DeskFault> {
+    ) -> Result<AreaAnswer, DeskFault>
+        requires known { area < length self.old.areas }
+        requires alive { L.alive life.old ≡ true }
+        ensures asked { (moment : ℕ) → Calls (λ answer. ask_answers.Area answer) (λ (asked : List Asking) (_ : ℕ). LeadsLists self.old asked self.new) (L.allowances life.old) (L.allowances life.new)
+            moment (asks.Area area op.now) result }
+        ensures cause { HasCause (L.deaths life.old) (L.deaths life.new) (has_died result) }
+        ensures alive { L.alive life.new ≡ not (has_died result) }
+        ensures parts { parts_of self.new ≡ parts_of self.old }
+        ensures life { life.new ≡ life.old }
+    {
         match self.areas[area as usize].call(alloc, op) {
             Ok(answer) => Ok(answer),
             Err(Memory) => Err(DeskFault::Memory),

@@ -1,11 +1,12 @@
 use Rattle.std.proofs.Common.{List, ℕ, ap, sym, subst, ◌∙◌}
+use Rattle.std.proofs.lemmas.Result.{err_from_is_err_and}
 use Rattle.uw_rules.specs.declared.compiled.Test.{Test}
 use Rattle.uw_rules.specs.Compiled.{IsTestOf}
 use Rattle.uw_chain.specs.declared.verdict.Verdict.TheVariants as verdicts
 use Rattle.uw_chain.specs.Courses.{ended}
 use Rattle.uw_chain.specs.Tests.{course_of_test}
 use Rattle.uw_chain.proofs.SpoolLemmas.{site, site_none}
-use Rattle.uw_chain.proofs.CourseLemmas.{RunsTo-ended}
+use Rattle.uw_chain.proofs.CourseLemmas.{RunsTo-ended, RunsTo-memory}
 use Rattle.uw_chain.proofs.JudgeLemmas.{always_course, holding_judged, holding_unjudged, matching_course}
 use Rattle.uw_chain.proofs.judging.judge.Goals as goal
 
@@ -23,6 +24,15 @@ returns-in-Always-clause-runs g c = λ names written is.
     (verdicts.Met c.new.result) (site_none g.D.Desk.leads g.P.Keeper.rows g.P.Keeper.append_faults g.P.Keeper.other_faults g.met.D.Desk.leads_none (desk, c.args.keep.now))
     (always_course names vars c.args.moment written (subst (λ (test : Test). IsTestOf names test written) c.in-Always.is is)
     ∙ ap (λ (captures : List (List ℕ)). ended (verdicts.Met captures)) (sym c.new.ensures))
+
+pub returns-in_err-search-in-Matches-clause-runs : goal.returns-in_err-search-in-Matches-clause-runs
+returns-in_err-search-in-Matches-clause-runs g c = λ names written is.
+    let desk = c.args.desk.now in
+    let end = err_from_is_err_and c.from_residual.result c.from_residual.ensures.1 in
+    rw (end.1, end.2)
+    (RunsTo-memory (site g.D.Desk.leads g.P.Keeper.rows g.P.Keeper.append_faults g.P.Keeper.other_faults (desk, c.args.keep.now) (desk, c.args.keep.now))
+    (g.L.Life.allowances c.args.life.now) c.args.moment (course_of_test names c.args.vars.now c.args.moment written) c.args.asks.now
+    (site_none g.D.Desk.leads g.P.Keeper.rows g.P.Keeper.append_faults g.P.Keeper.other_faults g.met.D.Desk.leads_none (desk, c.args.keep.now)))
 
 pub returns-in_ok-search-in-Matches-clause-runs : goal.returns-in_ok-search-in-Matches-clause-runs
 returns-in_ok-search-in-Matches-clause-runs g c = λ names written is.

@@ -16,6 +16,15 @@ returns-in_ok-judge_pattern-in-Regexp-clause-runs g c = λ names name argument i
     (regexp_course names vars filling.moment filling.captures.now c.in-Regexp.text c.in-Regexp.pattern name argument verdict c.requires.captures
     (subst (λ (condition : Condition). IsConditionOf names condition name argument) c.in-Regexp.is is) c.in_ok-judge_pattern-in-Regexp.ensures.found)
 
+pub returns-in_err-judge_pattern-in-Regexp-clause-runs : goal.returns-in_err-judge_pattern-in-Regexp-clause-runs
+returns-in_err-judge_pattern-in-Regexp-clause-runs g c = λ names name argument is.
+    let filling = c.args.filling.now in let desk = c.args.desk.now in
+    let end = err_from_is_err_and c.from_residual.result c.from_residual.ensures.1 in
+    rw (end.1, end.2)
+    (RunsTo-memory (site g.D.Desk.leads g.P.Keeper.rows g.P.Keeper.append_faults g.P.Keeper.other_faults (desk, c.args.keep.now) (desk, c.args.keep.now))
+    (g.L.Life.allowances c.args.life.now) filling.moment (course_of_condition names filling.vars.now filling.moment name argument) c.args.asks.now
+    (site_none g.D.Desk.leads g.P.Keeper.rows g.P.Keeper.append_faults g.P.Keeper.other_faults g.met.D.Desk.leads_none (desk, c.args.keep.now)))
+
 pub returns-in_ok-judge_texts-in_default-clause-runs : goal.returns-in_ok-judge_texts-in_default-clause-runs
 returns-in_ok-judge_texts-in_default-clause-runs g c = λ names name argument is.
     let filling = c.args.filling.now in let vars = filling.vars.now in let desk = c.args.desk.now in

@@ -12,6 +12,8 @@ rules-init g c = record {
   deaths = refl;
   parts = refl;
   settled = λ settled. settled;
+  later = omega arith;
+  others = refl;
   passes = λ naming written are later told after result runs. runs;
 }
 
@@ -57,6 +59,12 @@ returns-in_err-changed-clause-settled g c =
     let end = err_from_is_err_and c.from_residual.result c.from_residual.ensures.1 in
     rw (end.1, end.2) (λ settled alive. c.in_err-changed.ensures.settled (c.rules.invariant.settled settled) alive)
 
+pub returns-in_err-changed-clause-later : goal.returns-in_err-changed-clause-later
+returns-in_err-changed-clause-later g c = omega (arith, c.in_err-changed.ensures.later, c.rules.invariant.later)
+
+pub returns-in_err-changed-clause-others : goal.returns-in_err-changed-clause-others
+returns-in_err-changed-clause-others g c = c.in_err-changed.ensures.others ∙ c.rules.invariant.others
+
 pub rules-preserved-in-GoesOn : goal.rules-preserved-in-GoesOn
 rules-preserved-in-GoesOn g c =
     let ran = rw c.in-GoesOn.is at c.in_ok-changed.ensures.runs in
@@ -69,6 +77,8 @@ rules-preserved-in-GoesOn g c =
       deaths = c.in_ok-changed.ensures.cause.kept refl ∙ c.rules.invariant.deaths;
       parts = c.in_ok-changed.ensures.parts ∙ c.rules.invariant.parts;
       settled = λ settled. c.in_ok-changed.ensures.settled (c.rules.invariant.settled settled) refl;
+      later = omega (arith, c.in_ok-changed.ensures.later, c.rules.invariant.later);
+      others = c.in_ok-changed.ensures.others ∙ c.rules.invariant.others;
       passes =
           passes_rule (site g.D.Desk.leads g.P.Keeper.rows g.P.Keeper.append_faults g.P.Keeper.other_faults)
           (site_more g.D.Desk.leads g.P.Keeper.rows g.P.Keeper.append_faults g.P.Keeper.other_faults g.met.D.Desk.leads_more)
@@ -90,6 +100,8 @@ rules-preserved g c =
       deaths = c.in_ok-changed.ensures.cause.kept refl ∙ c.rules.invariant.deaths;
       parts = c.in_ok-changed.ensures.parts ∙ c.rules.invariant.parts;
       settled = λ settled. c.in_ok-changed.ensures.settled (c.rules.invariant.settled settled) refl;
+      later = omega (arith, c.in_ok-changed.ensures.later, c.rules.invariant.later);
+      others = c.in_ok-changed.ensures.others ∙ c.rules.invariant.others;
       passes =
           passes_rule (site g.D.Desk.leads g.P.Keeper.rows g.P.Keeper.append_faults g.P.Keeper.other_faults)
           (site_more g.D.Desk.leads g.P.Keeper.rows g.P.Keeper.append_faults g.P.Keeper.other_faults g.met.D.Desk.leads_more)
@@ -123,6 +135,12 @@ returns-in-Ends-clause-parts g c = c.in_ok-changed.ensures.parts ∙ c.rules.inv
 pub returns-in-Ends-clause-settled : goal.returns-in-Ends-clause-settled
 returns-in-Ends-clause-settled g c = λ settled alive. c.in_ok-changed.ensures.settled (c.rules.invariant.settled settled) refl
 
+pub returns-in-Ends-clause-later : goal.returns-in-Ends-clause-later
+returns-in-Ends-clause-later g c = omega (arith, c.in_ok-changed.ensures.later, c.rules.invariant.later)
+
+pub returns-in-Ends-clause-others : goal.returns-in-Ends-clause-others
+returns-in-Ends-clause-others g c = c.in_ok-changed.ensures.others ∙ c.rules.invariant.others
+
 pub returns-clause-runs : goal.returns-clause-runs
 returns-clause-runs g c = λ naming written are.
     let life = g.L.Life.allowances in
@@ -144,6 +162,12 @@ returns-clause-parts g c = c.rules.invariant.parts
 
 pub returns-clause-settled : goal.returns-clause-settled
 returns-clause-settled g c = λ settled alive. c.rules.invariant.settled settled
+
+pub returns-clause-later : goal.returns-clause-later
+returns-clause-later g c = c.rules.invariant.later
+
+pub returns-clause-others : goal.returns-clause-others
+returns-clause-others g c = c.rules.invariant.others
 
 pub offset_bounds-slots-at : goal.offset_bounds-slots-at
 offset_bounds-slots-at g c = let bound : c.rules.at < length c.rules.slots = omega (arith, slots_length c.args.rules.now c.rules.slots c.rules.invariant.fits) in omega arith
