@@ -1,23 +1,22 @@
 -- The rows of a round, one after the other.
-use Rattle.std.proofs.Common.{◌≡◌, ℕ, ◌+◌, ◌<◌, ◌≤◌, ◌%◌, ◌==◌, Bool, true, false, not, List, [], ◌∷◌, ◌++◌, map, filter, Option, None, Some, IfSome, ◌⊎◌, unwrap_or, Result, Ok, Err, inl, inr, refl, sym, ap, ◌∙◌, subst, arith, append_assoc}
+use Rattle.std.proofs.Common.{◌≡◌, ℕ, ◌<◌, ◌≤◌, ◌%◌, ◌==◌, Bool, true, false, List, [], ◌∷◌, ◌++◌, map, Option, None, Some, IfSome, ◌⊎◌, unwrap_or, Result, Ok, Err, inl, inr, refl, sym, ap, ◌∙◌, subst, arith, append_assoc}
 use Rattle.std.specs.List.{AllByRecursion}
 use Rattle.std.specs.List.Sorted.{IsStrictlyIncreasing}
 use Rattle.std.proofs.lemmas.Bool.{eq-eqb, eqb-true}
-use Rattle.std.proofs.lemmas.List.{append-nil, map-append}
+use Rattle.std.proofs.lemmas.List.{map-append}
 use Rattle.uw_outside.specs.Lives.{Spends}
 use Rattle.uw_keeper.specs.declared.keeper.Row.{Row}
 use Rattle.uw_keeper.specs.Keeping.{Keeping}
 use Rattle.uw_keeper.specs.Rows.{AreRows, last_number, last_of_rows}
 use Rattle.uw_keeper.proofs.RowsLemmas.{Above-from_rows, last_of_rows-number}
 use Rattle.uw_model.specs.Asks.{Asking, answered_at, of_desk}
-use Rattle.uw_chain.specs.declared.faults.ChainEnd.TheVariants as chains
 use Rattle.uw_chain.specs.Spooling.{Keeps, of_spool}
 use Rattle.uw_spool.specs.declared.report.TaskLine.{TaskLine}
 use Rattle.uw_spool.specs.declared.report.RoundFault.TheVariants as faults
 use Rattle.uw_spool.specs.declared.turns.RowFault.{RowFault}
 use Rattle.uw_spool.specs.declared.turns.RowFault.TheVariants as rows
-use Rattle.uw_spool.specs.Rounds.{AreOwnTurns, Clears, Failed, HasTurns, IsOutcomeOf, Round, RoundFlow, Rounds, TaskRules, TaskTurn, TasksLead, is_done, line_of_turn, own_rows}
-use Rattle.uw_spool.specs.RoundSteps.{AsksLead, EndsRows, FailsNext, FailsRow, FailsTurn, GivesRow, IsBehind, IsUntouched, LastRow, NextRow, Passes, PassesRow, SoFar, TakesTurn, TurnDone, fault_behind, rows_above}
+use Rattle.uw_spool.specs.Rounds.{Clears, HasTurns, IsNextRow, IsOutcomeOf, Round, RoundFlow, Rounds, TaskRules, TaskTurn, TasksLead, is_done, line_of_turn, own_rows}
+use Rattle.uw_spool.specs.RoundSteps.{AsksLead, EndsRows, FailsNext, FailsRow, GivesRow, IsBehind, IsUntouched, LastRow, Passes, PassesRow, SoFar, fault_behind, rows_above}
 use Rattle.uw_spool.specs.Tasks.{row_vars}
 use Rattle.uw_spool.proofs.RowsBehind.{all-append, all-weaker, rising-push, rows_above-all, stands-next, stands-none, stands-over, stands-pass, stands-start, stands-turn}
 
@@ -66,6 +65,29 @@ row_in t = t.row
 all-map : {X : Type 0} → (P : ℕ → Type 0) (f : X → ℕ) (xs : List X) → AllByRecursion (λ (x : X). P (f x)) xs → AllByRecursion P (map f xs)
 all-map P f [] all = tt
 all-map P f (x ∷ xs) all = (all.0, all-map P f xs all.1)
+
+-- a number that is above those of turns stands behind them
+rising-next : (turns : List TaskTurn) (number next : ℕ) → number < next → IsStrictlyIncreasing (map number_in turns) → AllByRecursion (λ (t : TaskTurn). t.row.number ≤ number) turns
+    → IsStrictlyIncreasing (map number_in turns ++ next ∷ [])
+rising-next turns number next up rising passed =
+    rising-push (map number_in turns) next rising
+    (all-map (λ n. n < next) number_in turns
+    (all-weaker (λ (t : TaskTurn). t.row.number ≤ number) (λ (t : TaskTurn). t.row.number < next) turns (λ t below. omega (arith, below, up)) passed))
+
+-- the numbers of lines are those of the rows in their turns
+line-numbers : (turns : List TaskTurn) → map (λ (line : TaskLine). line.number) (map line_of_turn turns) ≡ map number_in turns
+line-numbers [] = refl
+line-numbers (t ∷ turns) = ap (λ rest. t.row.number ∷ rest) (line-numbers turns)
+
+-- a row of the spooler that is given behind the rows that were passed is the next one behind their report
+next_row : {S : Type 0} → (round : Round) (f : RoundFlow S) (last number : ℕ) (lines : List TaskLine) (row : Row) → SoFar round f last number lines → number < row.number
+    → row.number % round.spoolers ≡ round.spooler → IsNextRow round lines row
+next_row round f last number lines row s up own = record {
+  own = own;
+  behind = subst (λ (numbers : List ℕ). IsStrictlyIncreasing (numbers ++ row.number ∷ []))
+      (sym (ap (map (λ (line : TaskLine). line.number)) s.reported ∙ line-numbers s.turns))
+      (rising-next s.turns number row.number up s.rising s.passed);
+}
 
 -- no row was passed
 pub so_far_start : {S : Type 0} → (leads : S → S → List Asking → ℕ → Type 0) (round : Round) (state : S) (kept : Keeping) (told : Option (List ℕ)) (last : ℕ)
@@ -141,9 +163,7 @@ so_far_turn leads round start middle after kept held put left a0 a1 a2 last numb
   turns = s.turns ++ t ∷ [];
   reported = pushed ∙ ap (λ (l : List TaskLine). l ++ line_of_turn t ∷ []) s.reported ∙ sym (map-append line_of_turn s.turns (t ∷ []));
   rising = subst IsStrictlyIncreasing (sym (map-append number_in s.turns (t ∷ [])))
-      (rising-push (map number_in s.turns) t.row.number s.rising
-      (all-map (λ n. n < t.row.number) number_in s.turns
-      (all-weaker (λ (u : TaskTurn). u.row.number ≤ number) (λ (u : TaskTurn). u.row.number < t.row.number) s.turns (λ u below. omega (arith, below, gives.0)) s.passed)));
+      (rising-next s.turns number t.row.number gives.0 s.rising s.passed);
   passed = all-append (λ (u : TaskTurn). u.row.number ≤ t.row.number) s.turns (t ∷ [])
       (all-weaker (λ (u : TaskTurn). u.row.number ≤ number) (λ (u : TaskTurn). u.row.number ≤ t.row.number) s.turns (λ u below. omega (arith, below, gives.0)) s.passed)
       (omega arith, tt);
@@ -331,22 +351,26 @@ ends_fault {S = S} leads round start middle after kept held left a0 a1 a2 last n
         (first_left round (flow leads start middle kept held a0 a1) last number lines r.row s r.gives own) in
         moved round (flow leads start after kept left a0 a2) lines now (r.row ∷ own_left round r.row.number kept.rows) middle middle held held a1 a1 h p.0 refl refl refl
 
+    next : (fault : RowFault) (r : FailsRow round (flow leads middle after held left a1 a2) number last fault) → IsNextRow round now r.row
+    next fault r =
+        subst (λ (l : List TaskLine). IsNextRow round l r.row) (sym p.0) (next_row round (flow leads start middle kept held a0 a1) last number lines r.row s r.gives.0 r.own)
+
     by_fault : (fault : RowFault) → FailsNext (flow leads middle after held left a1 a2) fault ⊎ FailsRow round (flow leads middle after held left a1 a2) number last fault
         → EndsRows round (flow leads start after kept left a0 a2) now (Err fault)
     by_fault rows.KeeperFault (inl n) =
         inl (own_left round number kept.rows, held, moved round (flow leads start after kept left a0 a2) lines now (own_left round number kept.rows) middle after held held a1 a2 any p.0 n.0 refl n.1, n.2)
     by_fault rows.KeeperFault (inr r) =
         let c = r.fails in
-        inr (r.row, own_left round r.row.number kept.rows, middle, held, c.put, a1, c.asked, c.outcome, c.writes, first rows.KeeperFault r, c.is_outcome, c.done, c.asks.led, c.asks.spent, c.asks.kept, c.failed)
+        inr (r.row, own_left round r.row.number kept.rows, middle, held, c.put, a1, c.asked, c.outcome, c.writes, first rows.KeeperFault r, c.is_outcome, c.done, c.asks.led, c.asks.spent, c.asks.kept, c.failed, next rows.KeeperFault r)
     by_fault (rows.Died whole) (inl n) = absurd n
     by_fault (rows.Died whole) (inr r) =
         let c = r.fails in
-        (r.row, c.0, own_left round r.row.number kept.rows, middle, held, a1, c.1, first (rows.Died whole) r, c.2, c.3)
+        (r.row, c.0, own_left round r.row.number kept.rows, middle, held, a1, c.1, first (rows.Died whole) r, c.2, c.3, c.4, next (rows.Died whole) r)
     by_fault rows.Memory (inl n) =
         inl (own_left round number kept.rows, moved round (flow leads start after kept left a0 a2) lines now (own_left round number kept.rows) middle after held left a1 a2 any p.0 n.desk n.keeper n.life)
     by_fault rows.Memory (inr r) = elim r.fails [
       | inl n ↦ inl (own_left round number kept.rows, moved round (flow leads start after kept left a0 a2) lines now (own_left round number kept.rows) middle after held left a1 a2 any p.0 n.desk n.keeper n.life)
-      | inr c ↦ inr (r.row, c.0, own_left round r.row.number kept.rows, middle, held, a1, c.1, first rows.Memory r, c.2, c.3)
+      | inr c ↦ inr (r.row, c.0, own_left round r.row.number kept.rows, middle, held, a1, c.1, first rows.Memory r, c.2, c.3, c.4, next rows.Memory r)
     ]
 
 -- ---- a round

@@ -1,5 +1,5 @@
 -- One row in its turn.
-use Rattle.std.proofs.Common.{◌≡◌, ℕ, ◌+◌, ◌≤◌, Bool, true, false, not, List, [], ◌∷◌, ◌++◌, Option, None, Some, Result, Ok, Err, inl, inr, refl, sym, ap, ◌∙◌, subst, arith}
+use Rattle.std.proofs.Common.{◌≡◌, ℕ, Bool, true, false, List, [], ◌∷◌, ◌++◌, Option, None, Some, Ok, Err, inl, inr, refl, sym, ◌∙◌, subst, arith}
 use Rattle.std.proofs.lemmas.Bool.{false≢true}
 use Rattle.std.proofs.lemmas.List.{append-nil}
 use Rattle.uw_base.specs.declared.variables.Pair.{Pair}
@@ -8,8 +8,7 @@ use Rattle.uw_outside.proofs.Lives.{Spends-none}
 use Rattle.uw_keeper.specs.declared.keeper.Row.{Row}
 use Rattle.uw_keeper.specs.Keeping.{Keeping, keeping}
 use Rattle.uw_model.specs.declared.asks.Asked.{Asked}
-use Rattle.uw_model.specs.Asks.{Asking, answered_at, of_desk}
-use Rattle.uw_rules.specs.WrittenRules.{WrittenRule}
+use Rattle.uw_model.specs.Asks.{Asking, answered_at}
 use Rattle.uw_chain.specs.declared.faults.ChainEnd.{ChainEnd}
 use Rattle.uw_chain.specs.declared.faults.ChainEnd.TheVariants as chains
 use Rattle.uw_chain.specs.declared.faults.ChainFault.{ChainFault}
@@ -17,14 +16,14 @@ use Rattle.uw_chain.specs.declared.faults.TaskEnd.{TaskEnd}
 use Rattle.uw_chain.specs.Courses.{ended}
 use Rattle.uw_chain.specs.Routing.{course_of_task}
 use Rattle.uw_chain.specs.Runs.{RunsTask, Stops}
-use Rattle.uw_chain.specs.Spooling.{Keeps, LeadsTold, both_led, of_spool}
+use Rattle.uw_chain.specs.Spooling.{Keeps, LeadsTold, both_led}
 use Rattle.uw_spool.specs.declared.report.Outcome.{Outcome}
 use Rattle.uw_spool.specs.declared.report.Outcome.TheVariants as outcomes
 use Rattle.uw_spool.specs.declared.report.TaskLine.{TaskLine}
 use Rattle.uw_spool.specs.declared.turns.RowFault.{RowFault}
 use Rattle.uw_spool.specs.declared.turns.RowFault.TheVariants as rows
-use Rattle.uw_spool.specs.Rounds.{Clears, Failed, IsOutcomeDue, IsOutcomeOf, RoundFlow, TaskRules, TaskTurn, is_done, line_of_turn}
-use Rattle.uw_spool.specs.RoundSteps.{AsksLead, ClearsRow, Counted, FailsTurn, IsUntouched, MakesOutcome, StopsTask, TakesTurn, fault_of_end, is_of_row_keeper}
+use Rattle.uw_spool.specs.Rounds.{IsOutcomeDue, IsOutcomeOf, RoundFlow, TaskRules, is_done}
+use Rattle.uw_spool.specs.RoundSteps.{AsksLead, ClearsRow, Counted, MakesOutcome, StopsTask, TakesTurn, fault_of_end}
 use Rattle.uw_spool.specs.Tasks.{counted_status, is_later, row_vars}
 
 -- what calls did of a desk, a keeper and a life
@@ -40,7 +39,7 @@ LeadsTold-none (Some kept) = refl
 
 -- no task was put aside
 pub Keeps-none : (kept : Keeping) → Keeps kept kept []
-Keeps-none kept = record { rows = LeadsTold-none kept.rows; failed = omega arith; later = omega arith; others = refl }
+Keeps-none kept = record { rows = LeadsTold-none kept.rows; failed = omega arith; later = omega arith; same = λ none. refl; others = refl }
 
 -- a desk and a keeper that are as they were
 abbrev pub still_flow : {S : Type 0} → (S → S → List Asking → ℕ → Type 0) → S → Keeping → Option (List ℕ) → RoundFlow S
@@ -78,15 +77,15 @@ makes_status rules now f vars pairs end outcome is due status runs =
     rw is (end.asks, runs.1.0, comes, record { led = led.0; spent = runs.1.2; kept = led.1 })
 
 -- a task that stopped
-pub makes_stop : {S : Type 0} → (rules : TaskRules) (now : ℕ) (f : RoundFlow S) (vars : Option (List Pair)) (pairs : List Pair) (fault : ChainFault) → vars ≡ Some pairs
+pub makes_stop : {S : Type 0} → (rules : TaskRules) (now : ℕ) (f : RoundFlow S) (vars : Option (List Pair)) (pairs : List Pair) (fault : ChainFault) → vars ≡ Some pairs → is_later now pairs ≡ false
     → RunsTask (both_led (f.leads f.before f.now) (Keeps f.kept f.left)) f.allowed f.still rules.naming rules.rules now pairs (Err fault)
     → MakesOutcome rules now f vars (Err fault.end)
-makes_stop rules now f vars pairs fault is runs = by_end fault.end runs
+makes_stop rules now f vars pairs fault is due runs = by_end fault.end runs
   where
     by_end : (end : ChainEnd) → Stops (both_led (f.leads f.before f.now) (Keeps f.kept f.left)) f.allowed f.still now (course_of_task rules.naming rules.rules now pairs) fault.done end
         → MakesOutcome rules now f vars (Err end)
-    by_end (chains.Died whole) stops = (pairs, fault.done, is, stops)
-    by_end chains.Memory stops = inr (pairs, fault.done, is, stops)
+    by_end (chains.Died whole) stops = (pairs, fault.done, is, stops, due)
+    by_end chains.Memory stops = inr (pairs, fault.done, is, stops, due)
 
 -- ---- counts
 
@@ -114,35 +113,6 @@ Counted-more before middle now failed first more = record {
   appends = omega (arith, first.appends, more.appends);
   others = HasCause-more before.other_faults middle.other_faults now.other_faults failed first.others more.others;
 }
-
--- a keeper that is as it was
-pub Counted-same : (before now : Keeping) → now ≡ before → Counted before now false
-Counted-same before now same = subst (λ (k : Keeping). Counted before k false) (sym same) (Counted-none before)
-
--- tasks were put aside
-pub Counted-keeps : (before now : Keeping) (asked : List Asking) → Keeps before now asked → Counted before now false
-Counted-keeps before now asked keeps = record {
-  appends = keeps.later;
-  others = record { later = omega (arith, keeps.others); rose = λ failed. absurd (false≢true failed); kept = λ _. keeps.others };
-}
-
--- a task that stopped
-Counted-stops : {S : Type 0} → (rules : TaskRules) (now : ℕ) (f : RoundFlow S) (vars : Option (List Pair)) (end : ChainEnd) → StopsTask rules now f vars end → Counted f.kept f.left false
-Counted-stops rules now f vars (chains.Died true) s = Counted-keeps f.kept f.left _ s.3.1.1.3.1.1
-Counted-stops rules now f vars (chains.Died false) s = Counted-keeps f.kept f.left _ s.3.1.3.1.1
-Counted-stops rules now f vars chains.Memory s = elim s.3 [ inl short ↦ Counted-keeps f.kept f.left _ short.2.1.1 | inr why ↦ Counted-keeps f.kept f.left _ why.3.1.1 ]
-
--- what came of a row
-pub Counted-outcome : {S : Type 0} → (rules : TaskRules) (now : ℕ) (f : RoundFlow S) (vars : Option (List Pair)) (result : Result Outcome ChainEnd)
-    → MakesOutcome rules now f vars result → Counted f.kept f.left false
-Counted-outcome rules now f vars (Ok outcome) m = Counted-keeps f.kept f.left _ m.3.kept
-Counted-outcome rules now f vars (Err (chains.Died whole)) m = Counted-stops rules now f vars (chains.Died whole) m
-Counted-outcome rules now f vars (Err chains.Memory) m = elim m [ inl nothing ↦ Counted-same f.kept f.left nothing.keeper | inr stops ↦ Counted-stops rules now f vars chains.Memory stops ]
-
--- the keeper did not fail in a row whose task stopped
-pub Counted-end : (before now : Keeping) (end : ChainEnd) → Counted before now false → Counted before now (is_of_row_keeper {T = Unit {0}} (Err (fault_of_end end)))
-Counted-end before now (chains.Died whole) counted = counted
-Counted-end before now chains.Memory counted = counted
 
 -- ---- a turn
 
@@ -180,15 +150,15 @@ turn_done rules now f put row before after outcome gone pushed makes clears = re
 ran : {S : Type 0} → (rules : TaskRules) (now : ℕ) (f : RoundFlow S) (vars : Option (List Pair)) (asked : List Asked) (writes : ℕ) (outcome : Outcome)
     → IsOutcomeOf rules now vars asked outcome → is_done outcome ≡ true → AsksLead now f asked writes → StopsTask rules now f vars chains.Memory
 ran rules now f None asked writes outcome comes done asks = absurd (false≢true (let e = rw comes.0 at done in e))
-ran rules now f (Some pairs) asked writes outcome comes done asks = by_due (is_later now pairs) comes
+ran rules now f (Some pairs) asked writes outcome comes done asks = by_due (is_later now pairs) refl comes
   where
-    by_due : (later : Bool) → IsOutcomeDue rules now later pairs asked outcome → StopsTask rules now f (Some pairs) chains.Memory
-    by_due true due = absurd (false≢true (let e = rw due.0 at done in e))
-    by_due false due =
+    by_due : (later : Bool) → is_later now pairs ≡ later → IsOutcomeDue rules now later pairs asked outcome → StopsTask rules now f (Some pairs) chains.Memory
+    by_due true is due = absurd (false≢true (let e = rw due.0 at done in e))
+    by_due false is due =
         let whole : answered_at now asked ≡ answered_at now asked ++ [] = sym (append-nil (answered_at now asked)) in
         let led : both_led (f.leads f.before f.now) (Keeps f.kept f.left) (answered_at now asked ++ []) writes =
         subst (λ (all : List Asking). both_led (f.leads f.before f.now) (Keeps f.kept f.left) all writes) whole (asks.led, asks.kept) in
-        (pairs, asked, refl, inl (ended due.0, due.1, (writes, led, asks.spent)))
+        (pairs, asked, refl, inl (ended due.0, due.1, (writes, led, asks.spent)), is)
 
 -- what came of a row, and its row was not cleared
 pub turn_not_cleared : {S : Type 0} → (rules : TaskRules) (now : ℕ) (f : RoundFlow S) (put : Keeping) (row : Row) (before after : List TaskLine) (outcome : Outcome) (fault : RowFault)

@@ -22,7 +22,7 @@ use Rattle.uw_spool.specs.declared.report.RoundFault.TheVariants as faults
 use Rattle.uw_spool.specs.declared.turns.RowFault.{RowFault}
 use Rattle.uw_spool.specs.declared.turns.RowFault.TheVariants as rows
 use Rattle.uw_spool.specs.Rounds.{Clears, Failed, FailsBehind, HasTurns, IsOutcomeOf, Round, RoundFlow, StopsBehind, TaskRules, TaskTurn, TasksLead, is_done, line_of_turn, own_rows}
-use Rattle.uw_spool.specs.Tasks.{row_vars}
+use Rattle.uw_spool.specs.Tasks.{is_later, row_vars}
 
 -- ---- counts
 

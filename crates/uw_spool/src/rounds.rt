@@ -73,8 +73,7 @@ fn pass<'r, L: Life, D: Desk, P: Keeper>(
           still = L.allowances life.new;
         }) number last lines.old.items lines.new.items result }
     ensures rises { IfOk result (λ next. IfSome next (λ after. number < after)) }
-    ensures counts { (rules : TaskRules) → AreRulesOf rules.naming.names rules.naming.labels (rules_of table.now) rules.rules
-        → Counted (keeping P.rows P.append_faults P.other_faults keep.old) (keeping P.rows P.append_faults P.other_faults keep.new) (is_of_row_keeper result) }
+    ensures counts { Counted (keeping P.rows P.append_faults P.other_faults keep.old) (keeping P.rows P.append_faults P.other_faults keep.new) (is_of_row_keeper result) }
     ensures fits { FitTable table.now searches.new }
     ensures cause { HasCause (L.deaths life.old) (L.deaths life.new) (has_died_in_row result) }
     ensures alive { L.alive life.new ≡ not (has_died_in_row result) }
@@ -125,8 +124,7 @@ fn pass_all<'r, L: Life, D: Desk, P: Keeper>(
           allowed = L.allowances life.old;
           still = L.allowances life.new;
         }) lines.new.items result }
-    ensures counts { (rules : TaskRules) → AreRulesOf rules.naming.names rules.naming.labels (rules_of table.now) rules.rules
-        → Counted (keeping P.rows P.append_faults P.other_faults keep.old) (keeping P.rows P.append_faults P.other_faults keep.new) (is_of_row_keeper result) }
+    ensures counts { Counted (keeping P.rows P.append_faults P.other_faults keep.old) (keeping P.rows P.append_faults P.other_faults keep.new) (is_of_row_keeper result) }
     ensures fits { FitTable table.now searches.new }
     ensures cause { HasCause (L.deaths life.old) (L.deaths life.new) (has_died_in_row result) }
     ensures alive { L.alive life.new ≡ not (has_died_in_row result) }
@@ -186,8 +184,7 @@ fn run_rows<'r, L: Life, D: Desk, P: Keeper>(
           allowed = L.allowances life.old;
           still = L.allowances life.new;
         }) lines.new.items result }
-    ensures counts { (rules : TaskRules) → AreRulesOf rules.naming.names rules.naming.labels (rules_of table.now) rules.rules
-        → Counted (keeping P.rows P.append_faults P.other_faults keep.old) (keeping P.rows P.append_faults P.other_faults keep.new) (is_of_row_keeper result) }
+    ensures counts { Counted (keeping P.rows P.append_faults P.other_faults keep.old) (keeping P.rows P.append_faults P.other_faults keep.new) (is_of_row_keeper result) }
     ensures fits { FitTable table.now searches.new }
     ensures cause { HasCause (L.deaths life.old) (L.deaths life.new) (has_died_in_row result) }
     ensures alive { L.alive life.new ≡ not (has_died_in_row result) }
@@ -235,10 +232,8 @@ pub fn round_with<'r, L: Life, D: Desk, P: Keeper>(
         }) result }
     ensures fits { FitTable table.now searches.new }
     ensures cause { HasCause (L.deaths life.old) (L.deaths life.new) (has_died_in_round result) }
-    ensures faults { (rules : TaskRules) → AreRulesOf rules.naming.names rules.naming.labels (rules_of table.now) rules.rules
-        → HasCause (P.other_faults keep.old) (P.other_faults keep.new) (is_keeper_fault result) }
-    ensures appends { (rules : TaskRules) → AreRulesOf rules.naming.names rules.naming.labels (rules_of table.now) rules.rules
-        → P.append_faults keep.old ≤ P.append_faults keep.new }
+    ensures faults { HasCause (P.other_faults keep.old) (P.other_faults keep.new) (is_keeper_fault result) }
+    ensures appends { P.append_faults keep.old ≤ P.append_faults keep.new }
     ensures alive { L.alive life.new ≡ not (has_died_in_round result) }
     ensures parts { D.parts desk.new ≡ D.parts desk.old }
     ensures settled { D.settled desk.old ≡ true → has_died_in_round result ≡ false → D.settled desk.new ≡ true }
@@ -290,10 +285,8 @@ pub fn round<L: Life, D: Desk, P: Keeper>(
           still = L.allowances life.new;
         }) result }
     ensures cause { HasCause (L.deaths life.old) (L.deaths life.new) (has_died_in_round result) }
-    ensures faults { (rules : TaskRules) → AreRulesOf rules.naming.names rules.naming.labels (rules_of table.now) rules.rules
-        → HasCause (P.other_faults keep.old) (P.other_faults keep.new) (is_keeper_fault result) }
-    ensures appends { (rules : TaskRules) → AreRulesOf rules.naming.names rules.naming.labels (rules_of table.now) rules.rules
-        → P.append_faults keep.old ≤ P.append_faults keep.new }
+    ensures faults { HasCause (P.other_faults keep.old) (P.other_faults keep.new) (is_keeper_fault result) }
+    ensures appends { P.append_faults keep.old ≤ P.append_faults keep.new }
     ensures alive { L.alive life.new ≡ not (has_died_in_round result) }
     ensures parts { D.parts desk.new ≡ D.parts desk.old }
     ensures settled { D.settled desk.old ≡ true → has_died_in_round result ≡ false → D.settled desk.new ≡ true }

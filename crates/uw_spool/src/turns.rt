@@ -55,6 +55,7 @@ fn outcome_of<'r, L: Life, D: Desk, P: Keeper>(
           allowed = L.allowances life.old;
           still = L.allowances life.new;
         }) (row_vars bytes.now) result }
+    ensures counts { Counted (keeping P.rows P.append_faults P.other_faults keep.old) (keeping P.rows P.append_faults P.other_faults keep.new) false }
     ensures fits { FitTable table.now searches.new }
     ensures cause { HasCause (L.deaths life.old) (L.deaths life.new) (has_died_following result) }
     ensures alive { L.alive life.new ≡ not (has_died_following result) }
@@ -141,8 +142,7 @@ pub fn turn<'r, L: Life, D: Desk, P: Keeper>(
           allowed = L.allowances life.old;
           still = L.allowances life.new;
         }) row.now lines.old.items lines.new.items result }
-    ensures counts { (rules : TaskRules) → AreRulesOf rules.naming.names rules.naming.labels (rules_of table.now) rules.rules
-        → Counted (keeping P.rows P.append_faults P.other_faults keep.old) (keeping P.rows P.append_faults P.other_faults keep.new) (is_of_row_keeper result) }
+    ensures counts { Counted (keeping P.rows P.append_faults P.other_faults keep.old) (keeping P.rows P.append_faults P.other_faults keep.new) (is_of_row_keeper result) }
     ensures fits { FitTable table.now searches.new }
     ensures cause { HasCause (L.deaths life.old) (L.deaths life.new) (has_died_in_row result) }
     ensures alive { L.alive life.new ≡ not (has_died_in_row result) }

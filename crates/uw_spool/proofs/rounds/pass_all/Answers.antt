@@ -1,10 +1,10 @@
-use Rattle.std.proofs.Common.{◌≡◌, ◌∙◌, ◌<◌, List, sym, subst, refl, arith}
-use Rattle.uw_keeper.specs.Keeping.{Keeping, keeping}
+use Rattle.std.proofs.Common.{◌∙◌, ◌<◌, List, sym, subst, refl, arith}
+use Rattle.uw_keeper.specs.Keeping.{keeping}
 use Rattle.uw_model.specs.Asks.{DeskParts}
 use Rattle.uw_rules.specs.Compiled.{rules_of}
 use Rattle.uw_rules.specs.PartNumbers.{AskPartsBelow}
 use Rattle.uw_spool.specs.declared.report.TaskLine.{TaskLine}
-use Rattle.uw_spool.specs.Rounds.{Round, TaskRules}
+use Rattle.uw_spool.specs.Rounds.{Round}
 use Rattle.uw_spool.specs.RoundSteps.{SoFar}
 use Rattle.uw_spool.proofs.TurnLemmas.{Counted-more, Counted-none, HasCause-more, HasCause-none}
 use Rattle.uw_spool.proofs.RoundLemmas.{ends_fault, ends_none, ends_over, flow, so_far_pass, so_far_start}
@@ -19,7 +19,7 @@ loop-number-init g c =
           let round : Round = record { rules = rules; now = c.args.now; spooler = c.args.k; spoolers = c.args.n } in
           subst (λ (lines : List TaskLine). SoFar round (flow g.D.Desk.leads c.args.desk.now c.args.desk.now kept kept told told) c.args.last 0 lines) (sym c.requires.first)
           (so_far_start g.D.Desk.leads round c.args.desk.now kept told c.args.last);
-      counts = λ rules are. Counted-none kept;
+      counts = Counted-none kept;
       fits = c.requires.fits;
       cause = HasCause-none (g.L.Life.deaths c.args.life.now);
       alive = c.requires.alive;
@@ -43,7 +43,7 @@ loop-number-preserved g c =
     record {
       so_far = λ rules are. so_far_pass g.D.Desk.leads (record { rules = rules; now = c.args.now; spooler = c.args.k; spoolers = c.args.n }) _ _ _ _ _ _ _ _ _ c.args.last _ c.in-Ok-Some.next _ _
           (i.so_far rules are) (rw c.in-Ok-Some.field-0-is at (e.passes rules are));
-      counts = λ rules are. Counted-more _ _ _ _ (i.counts rules are) (e.counts rules are);
+      counts = Counted-more _ _ _ _ i.counts e.counts;
       fits = e.fits;
       cause = HasCause-more _ _ _ _ i.cause e.cause;
       alive = e.alive;

@@ -1,4 +1,4 @@
-use Rattle.std.proofs.Common.{◌≡◌, ◌-◌, ◌≤◌, true, false}
+use Rattle.std.proofs.Common.{◌≡◌, ◌-◌, true, false}
 use Rattle.uw_outside.specs.Faults.{HasCause}
 use Rattle.uw_keeper.specs.Keeping.{keeping}
 use Rattle.uw_rules.specs.Compiled.{rules_of}
@@ -16,8 +16,7 @@ invariant-loop-number g l = record {
       → SoFar (record { rules = rules; now = l.fn.now; spooler = l.fn.k; spoolers = l.fn.n })
       (flow_of g.D.Desk.leads l.fn.desk l.desk g.P.Keeper.rows g.P.Keeper.append_faults g.P.Keeper.other_faults l.fn.keep l.keep (g.L.Life.allowances l.fn.life) (g.L.Life.allowances l.life))
       l.fn.last l.number l.lines.items;
-  counts : (rules : TaskRules) → AreRulesOf rules.naming.names rules.naming.labels (rules_of l.fn.table) rules.rules
-      → Counted (keeping g.P.Keeper.rows g.P.Keeper.append_faults g.P.Keeper.other_faults l.fn.keep) (keeping g.P.Keeper.rows g.P.Keeper.append_faults g.P.Keeper.other_faults l.keep) false;
+  counts : Counted (keeping g.P.Keeper.rows g.P.Keeper.append_faults g.P.Keeper.other_faults l.fn.keep) (keeping g.P.Keeper.rows g.P.Keeper.append_faults g.P.Keeper.other_faults l.keep) false;
   fits : FitTable l.fn.table l.searches;
   cause : HasCause (g.L.Life.deaths l.fn.life) (g.L.Life.deaths l.life) false;
   alive : g.L.Life.alive l.life ≡ true;

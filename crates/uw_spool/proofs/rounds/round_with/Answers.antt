@@ -1,4 +1,4 @@
-use Rattle.std.proofs.Common.{List, Err, ap, sym, subst, ◌∙◌}
+use Rattle.std.proofs.Common.{Err, ap, sym, subst, ◌∙◌}
 use Rattle.uw_keeper.specs.Keeping.{keeping}
 use Rattle.uw_spool.specs.declared.report.RoundFault.{RoundFault}
 use Rattle.uw_spool.specs.Rounds.{Round, Rounds}

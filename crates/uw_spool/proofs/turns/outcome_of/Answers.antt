@@ -20,4 +20,4 @@ returns-in-Err-clause-outcome g c = λ rules are.
     let f = flow_of g.D.Desk.leads c.args.desk.now c.run_task_with.new.desk g.P.Keeper.rows g.P.Keeper.append_faults g.P.Keeper.other_faults c.args.keep.now c.run_task_with.new.keep
     (g.L.Life.allowances c.args.life.now) (g.L.Life.allowances c.run_task_with.new.life) in
     makes_stop rules c.args.now f (row_vars c.args.bytes.now) c.in-Some.vars c.in-Err.fault (sym c.in_ok-vars.ensures ∙ c.in-Some.is)
-    (c.in-Err.ensures.runs rules.naming rules.rules are)
+    (sym c.is_later.ensures ∙ c.if-is_later.false) (c.in-Err.ensures.runs rules.naming rules.rules are)
