@@ -266,9 +266,9 @@ same_end leads others start last begin finish allowed more site src from snk int
     let first = left_behind src.before src.now bytes (bytes_of run.turns ++ run.rest) run.read is in
     let second = left_behind from.before from.now bytes (bytes_of again.turns ++ again.rest) again.read same in
     let one = ends_so (leads run.behind last) site
-    (record { src = src; snk = snk; count = length run.turns; rest = run.rest; part = run.part; late = run.late }) fault first.0 first.1 of run.ending in
+    (record { src = src; snk = snk; allowed = run.left; still = run.still; count = length run.turns; rest = run.rest; part = run.part; late = run.late }) fault first.0 first.1 of run.ending in
     let two = ends_so (others again.behind finish) site
-    (record { src = from; snk = into; count = length again.turns; rest = again.rest; part = again.part; late = again.late }) other second.0 second.1 too again.ending in
+    (record { src = from; snk = into; allowed = again.left; still = again.still; count = length again.turns; rest = again.rest; part = again.part; late = again.late }) other second.0 second.1 too again.ending in
     same_from site.options run.turns again.turns 0 (length run.turns) (length again.turns) bytes (run.rest ++ first.0) (again.rest ++ second.0) fault other
     (all_accepted leads site run.turns start run.behind allowed run.left run.passed)
     (all_accepted others site again.turns begin again.behind more again.left again.passed)

@@ -6,7 +6,7 @@ pub returns-in-Some-clause-spools : goal.returns-in-Some-clause-spools
 returns-in-Some-clause-spools g c = λ site is.
     let i = c.loop-spooler.invariant in
     let few : c.loop-spooler.spooler < site.options.spoolers = omega (arith, ap (λ o. o.spoolers) is.options, c.loop-spooler-test.true) in
-    rounds_end g.D.Desk.leads site c.args.now _ _ _ _ _ _ _ _ _ _ _ _ c.loop-spooler.spooler c.in-Some.fault i.kept (rw c.in-Some.is at c.in-Some.ensures.cause) few (i.so_far site is) (c.in-Some.ensures.runs site is)
+    rounds_end g.D.Desk.leads site c.args.now _ _ _ _ _ _ _ _ _ _ _ _ c.loop-spooler.spooler c.in-Some.fault i.kept c.in-Some.ensures.cause few (i.so_far site is) (c.in-Some.ensures.runs site is)
 
 pub loop-spooler-preserved : goal.loop-spooler-preserved
 loop-spooler-preserved g c =
