@@ -244,12 +244,18 @@ module _ {S C A : Type 0} (k : Kind S C A) (is : IsLocal k) where
         ap (λ (l : List ℕ). region l k.frame.gate) (made-append fill (opens k.frame ∷ []) words)
         ∙ get_or-set_same (words_after fill words) k.frame.gate 1 0 (omega (arith, length-made fill words, framed.gate, framed.start, framed.within))
 
+    of_runs : (i : ℕ) → AllAt (IsOneOf (copy_places k.frame opened)) (take i copied)
+    of_runs i =
+        let OfRun : WordWrite → Type 0 = λ w. IsOneOf (copy_places k.frame opened) w.at in
+        All-take OfRun i copied (all_weaker (IsCopy k.frame opened) OfRun copied (λ w copy. copy.target) gated.copies)
+
+    copying_open : (i : ℕ) → region (words_after (take i copied) opened) k.frame.gate ≡ 1
+    copying_open i = still_open k.frame opened opened_frame opened_gate gated.whole (take i copied) (of_runs i)
+
     copying_stands : (i : ℕ) → StandsFor k (words_after (take i copied) opened) after
     copying_stands i =
-        let OfRun : WordWrite → Type 0 = λ w. IsOneOf (copy_places k.frame opened) w.at in
-        let some : All OfRun (take i copied) =
-        All-take OfRun i copied (all_weaker (IsCopy k.frame opened) OfRun copied (λ w copy. copy.target) gated.copies) in
-        let still = still_open k.frame opened opened_frame opened_gate gated.whole (take i copied) some in
+        let some = of_runs i in
+        let still = copying_open i in
         let whole = still_whole k.frame opened opened_frame opened_gate gated.whole (take i copied) some in
         let same = same_applied k.frame opened opened_frame opened_gate gated.whole (take i copied) some in
         record { intact = inr (still, whole); agrees = subst (λ (l : List ℕ). k.agrees l after) (sym same) gated.stands }
@@ -263,17 +269,39 @@ module _ {S C A : Type 0} (k : Kind S C A) (is : IsLocal k) where
         (gated.last k.frame.gate (gate_other k.frame (length words) framed) ∙ is.gate stood after gated.stands)
         (λ at beyond. gated.last at (beyond_other k.frame at beyond)) gated.stands
 
-    -- the first of the writes, where they end before the gate opens, while words are copied, or at the end
-    gated_stand : (j : ℕ) → StandsFor k (words_after (take j todo) words) (cond (has_opened k.frame (take j todo)) after s)
-    gated_stand j = elim (cases_lt (length fill) j) [
-      | inl late ↦ opened_late late
+    in_order : todo ≡ fill ++ (opens k.frame ∷ ending)
+    in_order = gated.is ∙ append_assoc fill (opens k.frame ∷ copied) (closing k.frame ∷ [])
+
+    -- the first of the writes end while the record is filled, while words are copied, or with the last one
+    abbrev ComeTo : ℕ → Type 0
+    ComeTo j = (take j todo ≡ take j fill) ⊎ ((i : ℕ) × (take j todo ≡ fill ++ (opens k.frame ∷ take i copied))) ⊎ ((take j todo ≡ todo) × (length todo ≤ j))
+
+    come_to : (j : ℕ) → ComeTo j
+    come_to j = elim (cases_lt (length fill) j) [
+      | inl late ↦
+          let i = j - (length fill + 1) in
+          let place : j ≡ length fill + suc i = omega arith in
+          let taken : take j todo ≡ fill ++ (opens k.frame ∷ take i ending) =
+          ap (take j) in_order ∙ ap (λ (n : ℕ). take n (fill ++ (opens k.frame ∷ ending))) place ∙ take-append-add fill (opens k.frame ∷ ending) (suc i) in
+          elim (cases_lt (length copied) i) [
+            | inl past ↦
+                let all : length todo ≤ j =
+                omega (arith, ap (length {A = WordWrite}) in_order, length-append fill (opens k.frame ∷ ending), length-append copied (closing k.frame ∷ [])) in
+                inr (inr (take_all j todo all, all))
+            | inr within ↦
+                let same : take i ending ≡ take i copied = take-append-le i copied (closing k.frame ∷ []) within in
+                inr (inl (i, taken ∙ ap (λ (l : List WordWrite). fill ++ (opens k.frame ∷ l)) same))
+          ]
       | inr early ↦
-          let taken : take j todo ≡ take j fill =
+          inl (
           ap (take j) gated.is
           ∙ take-append-le j (fill ++ opens k.frame ∷ copied) (closing k.frame ∷ []) (omega (arith, length-append fill (opens k.frame ∷ copied)))
-          ∙ take-append-le j fill (opens k.frame ∷ copied) early in
-          stands_as taken (filling_opens j) (filling_stands j)
+          ∙ take-append-le j fill (opens k.frame ∷ copied) early
+          )
     ]
+
+    gated_stand : (j : ℕ) → StandsFor k (words_after (take j todo) words) (cond (has_opened k.frame (take j todo)) after s)
+    gated_stand j = go (come_to j)
       where
         stands_as : {some : List WordWrite} {has : Bool} → take j todo ≡ some → has_opened k.frame some ≡ has
             → StandsFor k (words_after some words) (cond has after s)
@@ -282,29 +310,32 @@ module _ {S C A : Type 0} (k : Kind S C A) (is : IsLocal k) where
             subst (λ (l : List WordWrite). StandsFor k (words_after l words) (cond (has_opened k.frame l) after s)) (sym taken)
             (subst (λ (b : Bool). StandsFor k (words_after some words) (cond b after s)) (sym has) stands)
 
-        opened_late : length fill < j → StandsFor k (words_after (take j todo) words) (cond (has_opened k.frame (take j todo)) after s)
-        opened_late late =
-            let i = j - (length fill + 1) in
-            let rest : List WordWrite = take i ending in
-            let place : j ≡ length fill + suc i = omega arith in
-            let taken : take j todo ≡ fill ++ (opens k.frame ∷ rest) =
-            ap (take j) in_order ∙ ap (λ (n : ℕ). take n (fill ++ (opens k.frame ∷ ending))) place ∙ take-append-add fill (opens k.frame ∷ ending) (suc i) in
-            stands_as taken (one_opens k.frame fill rest)
-            (subst (λ (l : List ℕ). StandsFor k l after) (sym (made_opened rest)) (after_opening i (cases_lt (length copied) i)))
-          where
-            in_order : todo ≡ fill ++ (opens k.frame ∷ ending)
-            in_order = gated.is ∙ append_assoc fill (opens k.frame ∷ copied) (closing k.frame ∷ [])
+        go : ComeTo j → StandsFor k (words_after (take j todo) words) (cond (has_opened k.frame (take j todo)) after s)
+        go (inl filling) = stands_as filling (filling_opens j) (filling_stands j)
+        go (inr (inl (i, copying))) =
+            stands_as copying (one_opens k.frame fill (take i copied))
+            (subst (λ (l : List ℕ). StandsFor k l after) (sym (made_opened (take i copied))) (copying_stands i))
+        go (inr (inr (whole, all))) =
+            stands_as whole (ap (has_opened k.frame) in_order ∙ one_opens k.frame fill ending) (agreeing_stand (words_after todo words) after gated_agree)
 
-            after_opening : (i : ℕ) → (length copied < i) ⊎ (i ≤ length copied) → StandsFor k (words_after (take i ending) opened) after
-            after_opening i (inr within) =
-                let taken : take i ending ≡ take i copied = take-append-le i copied (closing k.frame ∷ []) within in
-                subst (λ (l : List WordWrite). StandsFor k (words_after l opened) after) (sym taken) (copying_stands i)
-            after_opening i (inl past) =
-                let whole : take i ending ≡ ending = take_all i ending (omega (arith, length-append copied (closing k.frame ∷ []))) in
-                let same : words_after todo words ≡ words_after (take i ending) opened =
-                ap (λ (l : List WordWrite). words_after l words) in_order ∙ made_opened ending
-                ∙ ap (λ (l : List WordWrite). words_after l opened) (sym whole) in
-                subst (λ (l : List ℕ). StandsFor k l after) same (agreeing_stand (words_after todo words) after gated_agree)
+    -- while a write is left, the gate is open exactly where it has opened
+    gated_gate : (j : ℕ) → j < length todo → region (words_after (take j todo) words) k.frame.gate ≡ cond (has_opened k.frame (take j todo)) 1 0
+    gated_gate j more = go (come_to j)
+      where
+        gate_as : {some : List WordWrite} {has : Bool} → take j todo ≡ some → has_opened k.frame some ≡ has
+            → region (words_after some words) k.frame.gate ≡ cond has 1 0
+            → region (words_after (take j todo) words) k.frame.gate ≡ cond (has_opened k.frame (take j todo)) 1 0
+        gate_as {some = some} taken has gate =
+            subst (λ (l : List WordWrite). region (words_after l words) k.frame.gate ≡ cond (has_opened k.frame l) 1 0) (sym taken)
+            (subst (λ (b : Bool). region (words_after some words) k.frame.gate ≡ cond b 1 0) (sym has) gate)
+
+        go : ComeTo j → region (words_after (take j todo) words) k.frame.gate ≡ cond (has_opened k.frame (take j todo)) 1 0
+        go (inl filling) =
+            gate_as filling (filling_opens j)
+            (while_filled k.frame words framed fill gated.only j k.frame.gate (gate_other k.frame (length words) framed) ∙ closed)
+        go (inr (inl (i, copying))) =
+            gate_as copying (one_opens k.frame fill (take i copied)) (ap (λ (l : List ℕ). region l k.frame.gate) (made_opened (take i copied)) ∙ copying_open i)
+        go (inr (inr (whole, all))) = absurd (omega arith)
 
   module _ (words : List ℕ) (s : S) (moment : ℕ) (call : C) (answer : A) (todo : List WordWrite) (agrees : k.agrees words s)
       (right : IsRight k words s moment call answer todo) where
@@ -329,3 +360,12 @@ module _ {S C A : Type 0} (k : Kind S C A) (is : IsLocal k) where
         go : ((todo ≡ []) × k.agrees words next) ⊎ IsGated k words next todo → k.agrees (words_after todo words) next
         go (inl none) = subst (λ (l : List WordWrite). k.agrees (words_after l words) next) (sym none.0) none.1
         go (inr gated) = gated_agree words s next todo agrees gated
+
+    -- while a write is left, the gate is open exactly where the call has joined
+    pub right_gate : (j : ℕ) → j < length todo → region (words_after (take j todo) words) k.frame.gate ≡ cond (has_opened k.frame (take j todo)) 1 0
+    right_gate j more = go right.plan
+      where
+        go : ((todo ≡ []) × k.agrees words next) ⊎ IsGated k words next todo
+            → region (words_after (take j todo) words) k.frame.gate ≡ cond (has_opened k.frame (take j todo)) 1 0
+        go (inl none) = absurd (omega (arith, more, ap (length {A = WordWrite}) none.0))
+        go (inr gated) = gated_gate words s next todo agrees gated j more

@@ -30,12 +30,12 @@ module _ {C A : Type 0} (made : Called C) where
   EndsAs (died whole) lock = (phase : Phase A) × (lock ≡ held made phase) × (writes_left phase ≢ []) × (whole ≡ has_joined phase)
   EndsAs no_memory lock = (answer : A) × (todo : List WordWrite) × (lock ≡ held made (calling answer todo false))
 
--- in the world the lock was taken for the call, and just so many word writes were made as the life let through: the words are these, and the call ended so
-pub record IsCallTurn {S C A : Type 0} (k : Kind S C A) (start : S) (w : World C A) (made : Called C) (now : List ℕ) (told left : Option (List ℕ)) (end : CallEnd A)
-    : Type 0 where
-  pub writes : ℕ
-  pub after : World C A
-  pub runs : RunsTo k start w (taking made ∷ replicate writes (writing made.who)) (taken ∷ replicate writes wrote) after
-  pub words : after.words ≡ now
-  pub ends : EndsAs made end after.lock
-  pub spent : Spends told left writes
+module _ {S C A : Type 0} (k : Kind S C A) (start : S) where
+  -- in the world the lock was taken for the call, and just so many word writes were made as the life let through: the words are these, and the call ended so
+  pub record IsCallTurn (w : World C A) (made : Called C) (now : List ℕ) (told left : Option (List ℕ)) (end : CallEnd A) : Type 0 where
+    pub writes : ℕ
+    pub after : World C A
+    pub runs : RunsTo k start w (taking made ∷ replicate writes (writing made.who)) (taken ∷ replicate writes wrote) after
+    pub words : after.words ≡ now
+    pub ends : EndsAs made end after.lock
+    pub spent : Spends told left writes

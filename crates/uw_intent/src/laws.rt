@@ -97,6 +97,13 @@ pub fn right_writes_stand<K: RegionKind>()
         → StandsFor K.kind (words_after (take j todo) words) (if has_opened K.kind.frame (take j todo) then K.kind.next s moment call else s) }
 {}
 
+/// While a write of a right list is left, the gate is open exactly where the write that opens it was made.
+pub fn the_gate_tells_what_the_words_stand_for<K: RegionKind>()
+    ensures { (words : List ℕ) (s : K.State) (moment : ℕ) (call : K.Call) (answer : K.Answer) (todo : List WordWrite) (j : ℕ) → IsLocal K.kind
+        → K.kind.agrees words s → IsRight K.kind words s moment call answer todo → j < length todo
+        → region (words_after (take j todo) words) K.kind.frame.gate ≡ (if has_opened K.kind.frame (take j todo) then 1 else 0) }
+{}
+
 /// After all writes of a right list the words agree with the next state.
 pub fn right_writes_agree<K: RegionKind>()
     ensures { (words : List ℕ) (s : K.State) (moment : ℕ) (call : K.Call) (answer : K.Answer) (todo : List WordWrite) → IsLocal K.kind
