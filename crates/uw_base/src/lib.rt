@@ -11,6 +11,3 @@ pub use bytes::{Bytes, Memory};
 pub use lists::{BytesList, NumberList};
 pub use numbers::{djb33x, put_decimal, put_signed, read_decimal, read_signed};
 pub use variables::{Pair, Vars};
-
-#[cfg(test)]
-mod tests;

@@ -5,8 +5,6 @@ pub mod folder;
 pub mod keeper;
 pub mod laws;
 pub mod mem;
-#[cfg(test)]
-mod tests;
 
 pub use folder::FolderKeeper;
 pub use keeper::{KeepFault, Keeper, Row};

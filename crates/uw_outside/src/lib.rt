@@ -9,8 +9,6 @@ pub mod life;
 pub mod real;
 pub mod sink;
 pub mod source;
-#[cfg(test)]
-mod tests;
 
 pub use clock::{Clock, FixedClock};
 pub use fuse::Fuse;

@@ -9,6 +9,3 @@ pub mod reading;
 pub use blocks::{read_array, read_vars, write_vars};
 pub use packet::{Header, Packet, PacketFault};
 pub use reading::{read_block, read_header, read_packet, skip_body};
-
-#[cfg(test)]
-mod tests;

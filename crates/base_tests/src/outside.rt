@@ -1,13 +1,13 @@
 // The forms in memory and the adapters, through their traits.
-use crate::{
-    BytesIn, BytesOut, Clock, Filled, FixedClock, Fuse, Got, Immortal, Life, Put, Reading, Sink,
-    Source, SystemClock, Writing, fill, put_all,
-};
 use std::alloc::{AllocError, Global};
 use std::io::{self, Read, Write};
 use std::rt;
 use std::test::Fail;
 use std::time::Duration;
+use uw_outside::{
+    BytesIn, BytesOut, Clock, Filled, FixedClock, Fuse, Got, Immortal, Life, Put, Reading, Sink,
+    Source, SystemClock, Writing, fill, put_all,
+};
 
 // What so many reads into a buffer of four bytes answer, and the bytes that they gave.
 fn read_times<S: Source>(

@@ -1,9 +1,9 @@
 // The keepers through their trait.
-use crate::{FolderKeeper, KeepFault, Keeper, MemKeeper, Row};
 use std::alloc::{AllocError, Global};
 use std::test::Fail;
 use std::{env, fs, process};
 use uw_base::Bytes;
+use uw_keeper::{FolderKeeper, KeepFault, Keeper, MemKeeper, Row};
 
 // A call of a keeper.
 #[derive(Clone, Copy, Debug)]

@@ -1,12 +1,11 @@
 // Packets as they come from a source, and blocks, by worked examples.
-use crate::{
-    Header, PacketFault, read_array, read_block, read_header, read_packet, read_vars, skip_body,
-    write_vars,
-};
 use std::alloc::{AllocError, Global};
 use std::test::Fail;
 use uw_base::{Bytes, Vars};
 use uw_outside::BytesIn;
+use uw_packet::{
+    PacketFault, read_array, read_block, read_packet, read_vars, skip_body, write_vars,
+};
 
 // A request as nginx sends it.
 const REQUEST: &[u8] =
@@ -32,26 +31,6 @@ fn read_all(
         }
     }
     Ok((blocks, None))
-}
-
-#[test]
-fn a_header_is_cut_after_each_of_its_bytes(rt: HostRuntime) -> Result<(), Fail> {
-    let bytes = b"\x6f\x06\x01\x02";
-    let head = Header {
-        m1: 0x6f,
-        size: 0x106,
-        m2: 2,
-    };
-    let cut = |got| Err(PacketFault::Truncated { got, want: 4 });
-    let rows = [Ok(None), cut(1), cut(2), cut(3), Ok(Some(head))];
-    for (count, want) in rows.iter().enumerate() {
-        let front = bytes
-            .get(..count)
-            .ok_or("the rows are as many as the bytes")?;
-        let mut src = source(rt.alloc(), front, &[])?;
-        assert_eq!(rt; read_header(&mut src), *want, "cut after {count} bytes");
-    }
-    Ok(())
 }
 
 // In each row: the bytes, the reads that fail, how many packets come, and the refusal of the next.

@@ -1,9 +1,9 @@
 // Numbers, the hash, variables and lists, by examples from outside.
-use crate::{
+use std::test::Fail;
+use uw_base::{
     Bytes, BytesList, Memory, NumberList, Vars, djb33x, put_decimal, put_signed, read_decimal,
     read_signed,
 };
-use std::test::Fail;
 
 #[test]
 fn texts_of_1_to_20_digits_are_read_as_numbers_below_2_to_the_64(rt: HostRuntime) {
