@@ -188,6 +188,3 @@ fn number_of(width: Width, bytes: &[u8]) -> u64
         ]),
     }
 }
-
-#[cfg(test)]
-mod tests;

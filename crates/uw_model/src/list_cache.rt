@@ -68,6 +68,3 @@ fn copy_of(alloc: Global, conf: &CacheConf) -> Result<CacheConf, Memory>
         clear_on_full: conf.clear_on_full,
     })
 }
-
-#[cfg(test)]
-mod tests;

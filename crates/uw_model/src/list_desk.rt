@@ -92,6 +92,3 @@ impl Desk for ListDesk {
 
     ghost leads_more = { λ a b c early late first more. LeadsLists-append a b c early late };
 }
-
-#[cfg(test)]
-mod tests;

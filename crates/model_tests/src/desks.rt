@@ -4,10 +4,13 @@ ghost use Rattle.std.specs.List.{AllByRecursion};
 ghost use Rattle.uw_model.specs.AreaOps.{IsAreaSize};
 ghost use Rattle.uw_model.specs.Entries.{IsCacheConf};
 
-use super::*;
-use crate::{Ask, AskAnswer, CacheConf, Width, make_ask};
+use std::alloc::Global;
 use std::test::Fail;
-use uw_base::Bytes;
+use uw_base::{Bytes, Memory, NumberList};
+use uw_model::{
+    Answer, AreaAnswer, AreaOp, Ask, AskAnswer, CacheConf, CacheConfList, Call, ListDesk, Width,
+    make_ask,
+};
 use uw_outside::Immortal;
 
 /// What is asked of the one key.

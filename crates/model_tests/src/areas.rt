@@ -1,8 +1,9 @@
 // Operations of one area, each with the answer that it must have.
-use super::*;
-use crate::AreaBytes;
+use std::alloc::Global;
 use std::process::Abort;
 use std::test::Fail;
+use uw_base::{Bytes, Memory};
+use uw_model::{AreaAnswer, AreaBytes, AreaOp, ListArea, Width};
 
 /// What is asked.
 #[derive(Clone, Copy)]
