@@ -14,6 +14,3 @@ pub use kept::Kept;
 pub use lock::RobustLock;
 pub use pass::Pass;
 pub use turn::Turn;
-
-#[cfg(test)]
-mod tests;

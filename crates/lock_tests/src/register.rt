@@ -3,14 +3,12 @@ ghost use Rattle.std.specs.Prelude.{◌≡◌, ◌<◌, ◌++◌, ◌∷◌, [],
 ghost use Rattle.uw_lock.specs.declared.entries.Made.{Made};
 ghost use Rattle.uw_lock.specs.LockRule.{StartsWith, HasOwn, IsOnly, made};
 
-mod journal;
-
-use super::*;
 use std::alloc::{AllocError, Global};
 use std::sync::Wait;
 use std::test::Fail;
 use std::thread;
 use std::thread::Threads;
+use uw_lock::{Kept, Pass, RobustLock};
 
 #[derive(Drop)]
 struct Register {

@@ -1,5 +1,5 @@
 use Rattle.std.proofs.Common.{◌≡◌}
-use Rattle.uw_lock.proofs.tests.add_all.Given as goal
+use Rattle.lock_tests.proofs.register.add_all.Given as goal
 
 abbrev pub invariant-loop-k : goal.invariant-loop-k
 invariant-loop-k g l = l.pass.lock ≡ l.lock

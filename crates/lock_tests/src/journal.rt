@@ -3,11 +3,11 @@ ghost use Rattle.std.specs.Prelude.{◌≡◌, ◌++◌, ◌∷◌, [], ℕ, Lis
 ghost use Rattle.uw_lock.specs.declared.entries.Made.{Made};
 ghost use Rattle.uw_lock.specs.LockRule.{GrewByOthers, entries_by, made};
 
-use crate::*;
 use std::alloc::{AllocError, Global};
 use std::marker::Model;
 use std::sync::Wait;
 use std::test::Fail;
+use uw_lock::{Kept, Pass, RobustLock};
 
 #[derive(Drop)]
 struct Line {
