@@ -17,6 +17,3 @@ mod values;
 pub use conf::{Conf, ConfError, ConfFault, ConfKind, Options};
 pub use deciding::read_conf;
 pub use sizes::{area_words, region_words};
-
-#[cfg(test)]
-mod tests;

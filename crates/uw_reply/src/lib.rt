@@ -3,7 +3,5 @@
 
 pub mod laws;
 pub mod reply;
-#[cfg(test)]
-mod tests;
 
 pub use reply::{Reply, reply_bytes};

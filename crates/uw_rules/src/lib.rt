@@ -27,8 +27,3 @@ pub use lines::{RuleLine, RuleLineList};
 pub use patterns::{Built, Patterns};
 pub use reading::read_rules;
 pub use regex_patterns::RegexPatterns;
-
-#[cfg(test)]
-mod pattern_tests;
-#[cfg(test)]
-mod tests;

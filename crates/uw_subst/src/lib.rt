@@ -11,6 +11,3 @@ mod template;
 
 pub use reading::is_template;
 pub use template::{Filled, SubstFault, Template};
-
-#[cfg(test)]
-mod tests;

@@ -1,8 +1,8 @@
 // The maker of patterns, through its trait.
-use crate::{Built, Patterns, RegexPatterns};
 use regex::bytes::Regex;
 use std::alloc::{AllocError, Global};
 use std::test::Fail;
+use uw_rules::{Built, Patterns, RegexPatterns};
 
 // What a maker answers, without the pattern.
 #[derive(Clone, Copy, Debug, PartialEq, Eq)]
@@ -32,36 +32,28 @@ fn maker(alloc: Global, refuse: &[u64]) -> Result<RegexPatterns, AllocError> {
     Ok(RegexPatterns::new(refuse.to_vec(alloc)?))
 }
 
-#[test]
-fn texts_are_patterns_or_not(rt: HostRuntime) -> Result<(), Fail> {
-    let rows = [
-        ("", Kind::Pattern),
-        ("^/old/(.*)$", Kind::Pattern),
-        ("^/(\\d+)/", Kind::Pattern),
-        ("\\.php$", Kind::Pattern),
-        ("(?i)^www\\.", Kind::Pattern),
-        ("^\\p{L}+$", Kind::Pattern),
-        ("(?-u)\\xFF", Kind::Pattern),
-        ("é|ß", Kind::Pattern),
-        ("(", Kind::Syntax),
-        ("a)", Kind::Syntax),
-        ("[", Kind::Syntax),
-        ("*", Kind::Syntax),
-        ("a{2,1}", Kind::Syntax),
-        ("\\", Kind::Syntax),
-        ("(a)\\1", Kind::Syntax),
-        ("(?=a)", Kind::Syntax),
-        ("\\p{Nope}", Kind::Syntax),
-        ("(a{1000}){1000}", Kind::Refused),
-        ("((a{100}){100}){100}", Kind::Refused),
-        ("\\w{1000}", Kind::Refused),
-    ];
-    let mut make = maker(rt.alloc(), &[])?;
-    for (text, want) in rows {
-        assert_eq!(rt; made(rt.alloc(), &mut make, text), want, "{text}");
-    }
-    Ok(())
-}
+const TEXTS: [(&str, Kind); 20] = [
+    ("", Kind::Pattern),
+    ("^/old/(.*)$", Kind::Pattern),
+    ("^/(\\d+)/", Kind::Pattern),
+    ("\\.php$", Kind::Pattern),
+    ("(?i)^www\\.", Kind::Pattern),
+    ("^\\p{L}+$", Kind::Pattern),
+    ("(?-u)\\xFF", Kind::Pattern),
+    ("é|ß", Kind::Pattern),
+    ("(", Kind::Syntax),
+    ("a)", Kind::Syntax),
+    ("[", Kind::Syntax),
+    ("*", Kind::Syntax),
+    ("a{2,1}", Kind::Syntax),
+    ("\\", Kind::Syntax),
+    ("(a)\\1", Kind::Syntax),
+    ("(?=a)", Kind::Syntax),
+    ("\\p{Nope}", Kind::Syntax),
+    ("(a{1000}){1000}", Kind::Refused),
+    ("((a{100}){100}){100}", Kind::Refused),
+    ("\\w{1000}", Kind::Refused),
+];
 
 // A pattern weighs at most 2,500.
 const WEIGHED: [(&str, Kind); 28] = [
@@ -99,15 +91,6 @@ const WEIGHED: [(&str, Kind); 28] = [
     ("(((((a*)*)*)*)*)*", Kind::Refused),
 ];
 
-#[test]
-fn heavy_patterns_are_refused(rt: HostRuntime) -> Result<(), Fail> {
-    let mut make = maker(rt.alloc(), &[])?;
-    for (text, want) in WEIGHED {
-        assert_eq!(rt; made(rt.alloc(), &mut make, text), want, "{text}");
-    }
-    Ok(())
-}
-
 // Those that cost most of the light ones, as far as they were found: bench/rules/patterns times them.
 const HEAVIEST: [&str; 12] = [
     "[ab]*a[ab]{1244}[^ab]",
@@ -138,13 +121,17 @@ const SANE: [&str; 9] = [
 ];
 
 #[test]
-fn sane_and_timed_patterns_are_light(rt: HostRuntime) -> Result<(), Fail> {
+fn texts_are_patterns_or_not(rt: HostRuntime) -> Result<(), Fail> {
     let mut make = maker(rt.alloc(), &[])?;
-    for text in SANE {
-        assert_eq!(rt; made(rt.alloc(), &mut make, text), Kind::Pattern, "{text}");
+    for rows in [TEXTS.as_slice(), WEIGHED.as_slice()] {
+        for (text, want) in rows {
+            assert_eq!(rt; made(rt.alloc(), &mut make, text), *want, "{text}");
+        }
     }
-    for text in HEAVIEST {
-        assert_eq!(rt; made(rt.alloc(), &mut make, text), Kind::Pattern, "{text}");
+    for texts in [SANE.as_slice(), HEAVIEST.as_slice()] {
+        for text in texts {
+            assert_eq!(rt; made(rt.alloc(), &mut make, text), Kind::Pattern, "{text}");
+        }
     }
     Ok(())
 }
@@ -161,17 +148,6 @@ fn words(alloc: Global, count: u32) -> Result<String, AllocError> {
     Ok(text)
 }
 
-#[test]
-fn a_choice_of_two_hundred_words_is_light(rt: HostRuntime) -> Result<(), Fail> {
-    let rows = [(200, Kind::Pattern), (250, Kind::Refused)];
-    let mut make = maker(rt.alloc(), &[])?;
-    for (count, want) in rows {
-        let text = words(rt.alloc(), count)?;
-        assert_eq!(rt; made(rt.alloc(), &mut make, &text), want, "{count}");
-    }
-    Ok(())
-}
-
 // Groups that nest so deep.
 fn nested(alloc: Global, depth: usize) -> Result<String, AllocError> {
     let mut text = String::new(alloc);
@@ -185,16 +161,20 @@ fn nested(alloc: Global, depth: usize) -> Result<String, AllocError> {
 }
 
 #[test]
-fn patterns_nest_up_to_250_deep(rt: HostRuntime) -> Result<(), Fail> {
-    let rows = [
+fn words_and_groups_have_their_most(rt: HostRuntime) -> Result<(), Fail> {
+    let mut make = maker(rt.alloc(), &[])?;
+    for (count, want) in [(200, Kind::Pattern), (250, Kind::Refused)] {
+        let text = words(rt.alloc(), count)?;
+        assert_eq!(rt; made(rt.alloc(), &mut make, &text), want, "{count}");
+    }
+    let depths = [
         (1, Kind::Pattern),
         (250, Kind::Pattern),
         (251, Kind::Syntax),
         (1000, Kind::Syntax),
         (30_000, Kind::Syntax),
     ];
-    let mut make = maker(rt.alloc(), &[])?;
-    for (depth, want) in rows {
+    for (depth, want) in depths {
         let text = nested(rt.alloc(), depth)?;
         assert_eq!(rt; made(rt.alloc(), &mut make, &text), want, "{depth}");
     }

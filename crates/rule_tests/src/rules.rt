@@ -2,24 +2,26 @@
 ghost use Rattle.std.specs.Bool.{OnTrue};
 ghost use Rattle.uw_rules.specs.Tables.{AreRuleLines, IsRuleLine};
 
-use crate::grammar::kind_of_line;
-use crate::{
-    Action, AreaStep, Condition, RegexPatterns, Rule, RuleKind, RuleLine, RuleLineList, RuleTable,
-    RulesError, Test, read_rules,
-};
 use std::alloc::Global;
 use std::process::Abort;
 use std::str;
 use std::test::Fail;
 use uw_base::{Bytes, BytesList, Memory};
 use uw_model::{MathOp, Width};
+use uw_rules::{
+    Action, AreaStep, Condition, RegexPatterns, Rule, RuleKind, RuleLine, RuleLineList, RuleTable,
+    RulesError, Test, is_rule_option, read_rules,
+};
 use uw_subst::Template;
+
+// The option and the text of a line.
+type Row = (&'static [u8], &'static [u8]);
 
 // Whether this may be a line of a table.
 fn is_rule_line(line: &RuleLine) -> bool
     ensures { OnTrue result (IsRuleLine line.now) }
 {
-    kind_of_line(line.form.as_slice()).is_some()
+    is_rule_option(line.form.as_slice())
         && str::from_utf8(line.text.as_slice()).is_ok()
         && line.text.len() < 2_000_000
 }
@@ -111,7 +113,7 @@ fn kind(
     }
 }
 
-const TAKEN: [(&[u8], &[u8]); 43] = [
+const TAKEN: [Row; 43] = [
     (b"route", b" continue"),
     (b"route", b"^/old/(.*)$ redirect-permanent:/new/$1"),
     (b"route", b"^/a \t last"),
@@ -172,7 +174,7 @@ const TAKEN: [(&[u8], &[u8]); 43] = [
     ),
 ];
 
-const PARTS_TAKEN: [(&[u8], &[u8]); 19] = [
+const PARTS_TAKEN: [Row; 19] = [
     (
         b"route-run",
         b"arearead:area=15,at=18446744073709551615,len=65536,var=v",
@@ -200,14 +202,7 @@ const PARTS_TAKEN: [(&[u8], &[u8]); 19] = [
     (b"spool-run", b"cacheset:key=k,value=v"),
 ];
 
-#[test]
-fn each_form_is_taken(rt: HostRuntime) -> Result<(), Fail> {
-    expect(&rt, rt.alloc(), &TAKEN, None)?;
-    expect(&rt, rt.alloc(), &PARTS_TAKEN, None)?;
-    Ok(())
-}
-
-const BAD_TESTS: [(&[u8], &[u8]); 21] = [
+const BAD_TESTS: [Row; 21] = [
     (b"route", b"^/a"),
     (b"route", b""),
     (b"route-if", b"empty:a"),
@@ -234,7 +229,7 @@ const BAD_TESTS: [(&[u8], &[u8]); 21] = [
     (b"route", b"*"),
 ];
 
-const BAD_ACTIONS: [(&[u8], &[u8]); 20] = [
+const BAD_ACTIONS: [Row; 20] = [
     (b"route-run", b"continue:"),
     (b"route-run", b"last:x"),
     (b"route-run", b"return"),
@@ -257,7 +252,7 @@ const BAD_ACTIONS: [(&[u8], &[u8]); 20] = [
     (b"route-run", b"addheader:X"),
 ];
 
-const BAD_PAIRS: [(&[u8], &[u8]); 24] = [
+const BAD_PAIRS: [Row; 24] = [
     (b"route-run", b"cache"),
     (b"route-run", b"cache:"),
     (b"route-run", b"cache:key"),
@@ -287,7 +282,7 @@ const BAD_PAIRS: [(&[u8], &[u8]); 24] = [
     (b"route-run", b"cacheinc:key=k,by=1"),
 ];
 
-const BAD_PARTS: [(&[u8], &[u8]); 25] = [
+const BAD_PARTS: [Row; 25] = [
     (b"route-run", b"arearead:area=0,at=0,len=65537,var=v"),
     (b"route-run", b"arearead:area=0,at=0,len=1"),
     (b"route-run", b"arearead:area=0,len=1,var=v"),
@@ -318,7 +313,7 @@ const BAD_PARTS: [(&[u8], &[u8]); 25] = [
     (b"spool-label", b"a b"),
 ];
 
-const UNKNOWN_CONDITIONS: [(&[u8], &[u8]); 5] = [
+const UNKNOWN_CONDITIONS: [Row; 5] = [
     (b"route-if", b"nothing continue"),
     (b"route-if", b" continue"),
     (b"route-if", b":a continue"),
@@ -326,15 +321,15 @@ const UNKNOWN_CONDITIONS: [(&[u8], &[u8]); 5] = [
     (b"route-if-not", b"empty=a continue"),
 ];
 
-const BAD_PATTERNS: [(&[u8], &[u8]); 3] = [
+const BAD_PATTERNS: [Row; 3] = [
     (b"route", b"( continue"),
     (b"route", b"* nothing"),
     (b"route-if", b"regexp:a;[ continue"),
 ];
 
-const REFUSED_PATTERNS: [(&[u8], &[u8]); 1] = [(b"route", b"(a{1000}){1000} continue")];
+const REFUSED_PATTERNS: [Row; 1] = [(b"route", b"(a{1000}){1000} continue")];
 
-const UNKNOWN_ACTIONS: [(&[u8], &[u8]); 13] = [
+const UNKNOWN_ACTIONS: [Row; 13] = [
     (b"route", b"^/a "),
     (b"route", b"^/a :x"),
     (b"route-run", b""),
@@ -350,7 +345,7 @@ const UNKNOWN_ACTIONS: [(&[u8], &[u8]); 13] = [
     (b"spool-run", b"cache:key=k"),
 ];
 
-const BAD_TEMPLATES: [(&[u8], &[u8]); 9] = [
+const BAD_TEMPLATES: [Row; 9] = [
     (b"route-run", b"send:${"),
     (b"route-run", b"addheader:X: ${}"),
     (b"route-run", b"addvar:${=${a]}"),
@@ -362,12 +357,12 @@ const BAD_TEMPLATES: [(&[u8], &[u8]); 9] = [
     (b"spool-run", b"spool:a=b,c=${"),
 ];
 
-const LABELS_NOT_AHEAD: [(&[u8], &[u8]); 2] = [
+const LABELS_NOT_AHEAD: [Row; 2] = [
     (b"route-run", b"goto:x"),
     (b"route-if", b"incache:key=k,name=c goto:x"),
 ];
 
-const UNKNOWN_NAMES: [(&[u8], &[u8]); 5] = [
+const UNKNOWN_NAMES: [Row; 5] = [
     (b"route-if", b"incache:key=k,name=c continue"),
     (b"route-run", b"cache:key=k,name="),
     (b"route-run", b"cachedel:key=k,name=A"),
@@ -382,7 +377,7 @@ const UNKNOWN_NAMES: [(&[u8], &[u8]); 5] = [
 fn expect(
     rt: &impl Abort,
     alloc: Global,
-    rows: &[(&[u8], &[u8])],
+    rows: &[Row],
     want: Option<RuleKind>,
 ) -> Result<(), Memory> {
     for (form, text) in rows {
@@ -391,142 +386,121 @@ fn expect(
     Ok(())
 }
 
-#[test]
-fn a_bad_rule_comes_before_all_others(rt: HostRuntime) -> Result<(), Fail> {
-    let bad = Some(RuleKind::BadRule);
-    expect(&rt, rt.alloc(), &BAD_TESTS, bad)?;
-    expect(&rt, rt.alloc(), &BAD_ACTIONS, bad)?;
-    expect(&rt, rt.alloc(), &BAD_PAIRS, bad)?;
-    expect(&rt, rt.alloc(), &BAD_PARTS, bad)?;
-    Ok(())
-}
+// Lines, each alone in its table, and the refusal that each of them has.
+const REFUSALS: [(&[Row], Option<RuleKind>); 13] = [
+    (&TAKEN, None),
+    (&PARTS_TAKEN, None),
+    // A bad rule comes before all others.
+    (&BAD_TESTS, Some(RuleKind::BadRule)),
+    (&BAD_ACTIONS, Some(RuleKind::BadRule)),
+    (&BAD_PAIRS, Some(RuleKind::BadRule)),
+    (&BAD_PARTS, Some(RuleKind::BadRule)),
+    // The others in their order.
+    (&UNKNOWN_CONDITIONS, Some(RuleKind::UnknownCondition)),
+    (&BAD_PATTERNS, Some(RuleKind::BadPattern)),
+    (&REFUSED_PATTERNS, Some(RuleKind::PatternRefused)),
+    (&UNKNOWN_ACTIONS, Some(RuleKind::UnknownAction)),
+    (&BAD_TEMPLATES, Some(RuleKind::BadTemplate)),
+    (&LABELS_NOT_AHEAD, Some(RuleKind::LabelNotAhead)),
+    (&UNKNOWN_NAMES, Some(RuleKind::UnknownName)),
+];
 
 #[test]
-fn refusals_come_in_their_order(rt: HostRuntime) -> Result<(), Fail> {
-    expect(
-        &rt,
-        rt.alloc(),
-        &UNKNOWN_CONDITIONS,
-        Some(RuleKind::UnknownCondition),
-    )?;
-    expect(&rt, rt.alloc(), &BAD_PATTERNS, Some(RuleKind::BadPattern))?;
-    expect(
-        &rt,
-        rt.alloc(),
-        &REFUSED_PATTERNS,
-        Some(RuleKind::PatternRefused),
-    )?;
-    expect(
-        &rt,
-        rt.alloc(),
-        &UNKNOWN_ACTIONS,
-        Some(RuleKind::UnknownAction),
-    )?;
-    expect(&rt, rt.alloc(), &BAD_TEMPLATES, Some(RuleKind::BadTemplate))?;
-    expect(
-        &rt,
-        rt.alloc(),
-        &LABELS_NOT_AHEAD,
-        Some(RuleKind::LabelNotAhead),
-    )?;
-    expect(&rt, rt.alloc(), &UNKNOWN_NAMES, Some(RuleKind::UnknownName))?;
-    Ok(())
-}
-
-#[test]
-fn labels_stand_ahead_and_once(rt: HostRuntime) -> Result<(), Fail> {
-    let rows: [(&[(&[u8], &[u8])], Option<(u32, RuleKind)>); 8] = [
-        (&[(b"route-run", b"goto:x"), (b"route-label", b"x")], None),
-        (
-            &[(b"route-label", b"x"), (b"route-run", b"goto:x")],
-            Some((2, RuleKind::LabelNotAhead)),
-        ),
-        (
-            &[
-                (b"route-label", b"x"),
-                (b"route-run", b"last"),
-                (b"route-label", b"x"),
-            ],
-            Some((3, RuleKind::LabelTwice)),
-        ),
-        (
-            &[
-                (b"route-label", b"x"),
-                (b"route-run", b"goto:x"),
-                (b"route-label", b"x"),
-            ],
-            Some((2, RuleKind::LabelNotAhead)),
-        ),
-        (
-            &[
-                (b"route-run", b"goto:x"),
-                (b"route-run", b"goto:y"),
-                (b"route-label", b"x"),
-            ],
-            Some((2, RuleKind::LabelNotAhead)),
-        ),
-        (
-            &[
-                (b"route-run", b"goto:x"),
-                (b"route-label", b"x y"),
-                (b"route-label", b"x"),
-            ],
-            Some((2, RuleKind::BadRule)),
-        ),
-        (
-            &[(b"route-run", b"goto:X"), (b"route-label", b"x")],
-            Some((1, RuleKind::LabelNotAhead)),
-        ),
-        (&[], None),
-    ];
-    for (table, want) in rows {
-        assert_eq!(rt; refusal(&rt, rt.alloc(), table, &[], &[])?, want);
+fn each_line_has_its_refusal_or_none(rt: HostRuntime) -> Result<(), Fail> {
+    for (rows, want) in REFUSALS {
+        expect(&rt, rt.alloc(), rows, want)?;
     }
     Ok(())
 }
 
-#[test]
-fn caches_are_named_where_there_are_some(rt: HostRuntime) -> Result<(), Fail> {
-    let rows: [(&[u8], &[u8], Option<(u32, RuleKind)>); 3] = [
-        (
-            b"route-run",
-            b"cache:key=k",
-            Some((1, RuleKind::UnknownName)),
-        ),
-        (
-            b"route-run",
-            b"cache:key=k,name=a",
-            Some((1, RuleKind::UnknownName)),
-        ),
-        (b"route-run", b"send:k", None),
-    ];
-    for (form, text, want) in rows {
-        assert_eq!(rt;
-            refusal(&rt, rt.alloc(), &[(form, text)], &[], &[])?,
-            want,
-            "{text:?}"
-        );
-    }
-    Ok(())
-}
+// A table where no cache is configured, the patterns that the maker refuses, and the first refused line.
+type Refused = (&'static [Row], &'static [u64], Option<(u32, RuleKind)>);
+
+const TABLES: [Refused; 14] = [
+    (&[], &[], None),
+    // Labels stand ahead, and once.
+    (
+        &[(b"route-run", b"goto:x"), (b"route-label", b"x")],
+        &[],
+        None,
+    ),
+    (
+        &[(b"route-label", b"x"), (b"route-run", b"goto:x")],
+        &[],
+        Some((2, RuleKind::LabelNotAhead)),
+    ),
+    (
+        &[
+            (b"route-label", b"x"),
+            (b"route-run", b"last"),
+            (b"route-label", b"x"),
+        ],
+        &[],
+        Some((3, RuleKind::LabelTwice)),
+    ),
+    (
+        &[
+            (b"route-label", b"x"),
+            (b"route-run", b"goto:x"),
+            (b"route-label", b"x"),
+        ],
+        &[],
+        Some((2, RuleKind::LabelNotAhead)),
+    ),
+    (
+        &[
+            (b"route-run", b"goto:x"),
+            (b"route-run", b"goto:y"),
+            (b"route-label", b"x"),
+        ],
+        &[],
+        Some((2, RuleKind::LabelNotAhead)),
+    ),
+    (
+        &[
+            (b"route-run", b"goto:x"),
+            (b"route-label", b"x y"),
+            (b"route-label", b"x"),
+        ],
+        &[],
+        Some((2, RuleKind::BadRule)),
+    ),
+    (
+        &[(b"route-run", b"goto:X"), (b"route-label", b"x")],
+        &[],
+        Some((1, RuleKind::LabelNotAhead)),
+    ),
+    // Caches are named where there are some.
+    (
+        &[(b"route-run", b"cache:key=k")],
+        &[],
+        Some((1, RuleKind::UnknownName)),
+    ),
+    (
+        &[(b"route-run", b"cache:key=k,name=a")],
+        &[],
+        Some((1, RuleKind::UnknownName)),
+    ),
+    (&[(b"route-run", b"send:k")], &[], None),
+    // A refusal of the maker is told.
+    (
+        &[(b"route", b"a break")],
+        &[1],
+        Some((1, RuleKind::PatternRefused)),
+    ),
+    (
+        &[(b"route", b"a break"), (b"route-if", b"regexp:a;b nothing")],
+        &[2],
+        Some((2, RuleKind::PatternRefused)),
+    ),
+    (&[(b"route", b"a break")], &[2], None),
+];
 
 #[test]
-fn a_refusal_of_the_maker_is_told(rt: HostRuntime) -> Result<(), Fail> {
-    let rows: [(&[(&[u8], &[u8])], &[u64], Option<(u32, RuleKind)>); 3] = [
-        (
-            &[(b"route", b"a break")],
-            &[1],
-            Some((1, RuleKind::PatternRefused)),
-        ),
-        (
-            &[(b"route", b"a break"), (b"route-if", b"regexp:a;b nothing")],
-            &[2],
-            Some((2, RuleKind::PatternRefused)),
-        ),
-        (&[(b"route", b"a break")], &[2], None),
-    ];
-    for (table, refuse, want) in rows {
-        assert_eq!(rt; refusal(&rt, rt.alloc(), table, &[], refuse)?, want);
+fn each_table_has_its_first_refused_line_or_none(rt: HostRuntime) -> Result<(), Fail> {
+    for (table, refuse, want) in TABLES {
+        let found = refusal(&rt, rt.alloc(), table, &[], refuse)?;
+        assert_eq!(rt; found, want, "{table:?}");
     }
     Ok(())
 }

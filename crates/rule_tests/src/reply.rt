@@ -1,8 +1,8 @@
 // Replies by worked examples, made by hand from the form of HTTP/1.1.
-use crate::{Reply, reply_bytes};
 use std::alloc::Global;
 use std::test::Fail;
 use uw_base::{Bytes, BytesList, Memory};
+use uw_reply::{Reply, reply_bytes};
 
 // A reply's status, its header lines and its body; whether only the head is asked for; its bytes.
 type Row = (

@@ -1,9 +1,9 @@
 // Templates by examples; what is filled in was worked out by another program.
-use crate::{Filled, SubstFault, Template};
 use std::alloc::Global;
 use std::process::Abort;
 use std::test::Fail;
 use uw_base::{Bytes, BytesList, Vars};
+use uw_subst::{Filled, SubstFault, Template};
 
 // The variables and captures of the examples.
 const VARS: [(&[u8], &[u8]); 12] = [

@@ -3,8 +3,8 @@ use Rattle.std.specs.Prelude.{slice_index}
 use Rattle.std.proofs.lemmas.List.{get_or-map, get_or_default, length-map}
 use Rattle.uw_rules.specs.declared.lines.RuleLine.{RuleLine}
 use Rattle.uw_rules.specs.Tables.{IsRuleLine}
-use Rattle.uw_rules.proofs.tests.is_table.Goals as goal
-use Rattle.uw_rules.proofs.tests.is_table.Goals.{else-here-gt0-via-then-here-gt0+else-lines-here, else-here-gt0-via-else-here-gt0}
+use Rattle.rule_tests.proofs.rules.is_table.Goals as goal
+use Rattle.rule_tests.proofs.rules.is_table.Goals.{else-here-gt0-via-then-here-gt0+else-lines-here, else-here-gt0-via-else-here-gt0}
 
 abbrev numbers : List RuleLine → List ℕ
 numbers lines = map (λ (line : RuleLine). line.line) lines

@@ -2,7 +2,7 @@ use Rattle.std.proofs.Common.{ℕ, ◌+◌, ◌<◌, get_or, map}
 use Rattle.std.specs.Prelude.{slice_index}
 use Rattle.uw_rules.specs.declared.lines.RuleLine.{RuleLine}
 use Rattle.uw_rules.specs.Tables.{IsRuleLine}
-use Rattle.uw_rules.proofs.tests.is_table.Given as goal
+use Rattle.rule_tests.proofs.rules.is_table.Given as goal
 
 -- the lines so far may be those of a table
 abbrev pub invariant-loop-here : goal.invariant-loop-here

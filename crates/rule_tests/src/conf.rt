@@ -1,0 +1,454 @@
+// Configurations by worked examples.
+use std::alloc::Global;
+use std::process::Abort;
+use std::test::Fail;
+use uw_base::{Bytes, Memory};
+use uw_conf::{Conf, ConfError, ConfFault, ConfKind, area_words, read_conf, region_words};
+use uw_model::CacheConf;
+use uw_rules::{RegexPatterns, RuleKind};
+
+// The refused line of a text, if there is one.
+fn fault(rt: &impl Abort, alloc: Global, text: &[u8]) -> Result<Option<ConfFault>, Memory> {
+    assert!(rt; text.len() < 2_000_000);
+    let mut make = RegexPatterns::new(Vec::new(alloc));
+    match read_conf(alloc, text, &mut make) {
+        Ok(_) => Ok(None),
+        Err(ConfError::Refused(fault)) => Ok(Some(fault)),
+        Err(ConfError::Memory) => Err(Memory),
+    }
+}
+
+// What a text says.
+fn conf(rt: &impl Abort, alloc: Global, text: &[u8]) -> Result<Conf, ConfError> {
+    assert!(rt; text.len() < 2_000_000);
+    let mut make = RegexPatterns::new(Vec::new(alloc));
+    read_conf(alloc, text, &mut make)
+}
+
+fn at(line: u32, kind: ConfKind) -> Option<ConfFault> {
+    Some(ConfFault { line, kind })
+}
+
+// A text, and its refused line with the kind of the refusal, if there is one.
+type Row = (&'static [u8], Option<(u32, ConfKind)>);
+
+const AREA_TOO_LARGE: ConfKind = ConfKind::TooLarge {
+    bytes: 1_073_758_528,
+    limit: 1_073_741_824,
+};
+
+const NOT_AHEAD: ConfKind = ConfKind::Rule(RuleKind::LabelNotAhead);
+
+const UNKNOWN: ConfKind = ConfKind::Rule(RuleKind::UnknownAction);
+
+const NO_NAME: ConfKind = ConfKind::Rule(RuleKind::UnknownName);
+
+// Lines of options, and what is refused of each text.
+const LINES: [Row; 16] = [
+    (b"workers = 1\n", Some((1, ConfKind::BadLine))),
+    (b"\nnonsense\n[uwsgi]\n", Some((2, ConfKind::BadLine))),
+    (b"[uwsgi]\nworkers\n", Some((2, ConfKind::BadLine))),
+    (b"[uwsgi]\n = 1\n", Some((2, ConfKind::BadLine))),
+    (b"[uwsgi]\n[uwsgi", Some((2, ConfKind::BadLine))),
+    (b"[uwsgi]\n; \xff\n", Some((2, ConfKind::BadLine))),
+    (b"[other]\nworkers = \xff\n", Some((2, ConfKind::BadLine))),
+    (
+        b"[uwsgi]\nmaster = 1\nbuffersize = 1\n",
+        Some((3, ConfKind::UnknownOption)),
+    ),
+    (b"[uwsgi]\nworkers = 65\n", Some((2, ConfKind::BadValue))),
+    (
+        b"[uwsgi]\nworkers = 0\nnonsense\n",
+        Some((2, ConfKind::BadValue)),
+    ),
+    (b"[uwsgi]\nsocket =\n", Some((2, ConfKind::BadValue))),
+    (
+        b"[uwsgi]\nworkers = 000000000000000000001\n",
+        Some((2, ConfKind::BadValue)),
+    ),
+    (b"[uwsgi]\nharakiri = 86401", Some((2, ConfKind::BadValue))),
+    (b"[other]\nworkers = 65\n=\nnonsense\n", None),
+    (b"", None),
+    (b"\n;\n#\n", None),
+];
+
+// Lines of caches.
+const CACHES: [Row; 15] = [
+    (b"[uwsgi]\ncache2 = name=a\n", Some((2, ConfKind::Missing))),
+    (b"[uwsgi]\ncache2 = items=1\n", Some((2, ConfKind::Missing))),
+    (b"[uwsgi]\ncache2 =\n", Some((2, ConfKind::BadValue))),
+    (
+        b"[uwsgi]\ncache2 = name=a,items=1,\n",
+        Some((2, ConfKind::BadValue)),
+    ),
+    (
+        b"[uwsgi]\ncache2 = name=a,items=0,items=1\n",
+        Some((2, ConfKind::BadValue)),
+    ),
+    (
+        b"[uwsgi]\ncache2 = name=a,items=1,hash=crc32\n",
+        Some((2, ConfKind::BadValue)),
+    ),
+    (
+        b"[uwsgi]\ncache2 = name=a,items=1,bitmap=yes\n",
+        Some((2, ConfKind::BadValue)),
+    ),
+    (
+        b"[uwsgi]\ncache2 = items=x,colour=1\n",
+        Some((2, ConfKind::UnknownOption)),
+    ),
+    (
+        b"[uwsgi]\ncache2 = name=a, items=1\n",
+        Some((2, ConfKind::UnknownOption)),
+    ),
+    (
+        b"[uwsgi]\ncache2 = name=a,items=1\ncache2 = name=b,items=1\ncache2 = name=a,items=2\n",
+        Some((4, ConfKind::NameTwice)),
+    ),
+    (
+        b"[uwsgi]\ncache2 = name=a,items=20000\n",
+        Some((
+            2,
+            ConfKind::TooLarge {
+                bytes: 1_361_014_048,
+                limit: 1_073_741_824,
+            },
+        )),
+    ),
+    (
+        b"[uwsgi]\ncache2 = name=a,items=1020,blocksize=1048576,keysize=8,hashsize=441345\n",
+        None,
+    ),
+    (
+        b"[uwsgi]\ncache2 = name=a,items=1020,blocksize=1048576,keysize=8,hashsize=441346\n",
+        Some((
+            2,
+            ConfKind::TooLarge {
+                bytes: 1_073_741_832,
+                limit: 1_073_741_824,
+            },
+        )),
+    ),
+    (
+        b"[uwsgi]\ncache2 = name=a,items=20000,bitmap=1\ncache2 = name=a\n",
+        Some((
+            2,
+            ConfKind::TooLarge {
+                bytes: 1_361_014_048,
+                limit: 1_073_741_824,
+            },
+        )),
+    ),
+    (b"[other]\ncache2 = colour\n", None),
+];
+
+// Lines of areas.
+const AREAS: [Row; 16] = [
+    (b"[uwsgi]\nsharedarea = 4096\nsharedarea=1", None),
+    (b"[uwsgi]\nsharedarea = pages=4096\n", None),
+    (
+        b"[uwsgi]\nsharedarea = size=1\nsharedarea = size=16777216\n",
+        None,
+    ),
+    (b"[other]\nsharedarea = 0\n", None),
+    (b"[uwsgi]\nsharedarea =\n", Some((2, ConfKind::BadValue))),
+    (b"[uwsgi]\nsharedarea = 0\n", Some((2, ConfKind::BadValue))),
+    (
+        b"[uwsgi]\nsharedarea = 4097\n",
+        Some((2, ConfKind::BadValue)),
+    ),
+    (
+        b"[uwsgi]\nsharedarea = pages=0\n",
+        Some((2, ConfKind::BadValue)),
+    ),
+    (
+        b"[uwsgi]\nsharedarea = size=0\n",
+        Some((2, ConfKind::BadValue)),
+    ),
+    (
+        b"[uwsgi]\nsharedarea = size=16777217\n",
+        Some((2, ConfKind::BadValue)),
+    ),
+    (
+        b"[uwsgi]\nsharedarea = size = 16\n",
+        Some((2, ConfKind::BadValue)),
+    ),
+    (
+        b"[uwsgi]\nsharedarea = bytes=3\n",
+        Some((2, ConfKind::BadValue)),
+    ),
+    (
+        b"[uwsgi]\nsharedarea = 1,2\n",
+        Some((2, ConfKind::BadValue)),
+    ),
+    (
+        b"[uwsgi]\ncache2 = name=a,items=1020,blocksize=1048576,keysize=8,hashsize=441345\nsharedarea = 1\n",
+        Some((3, AREA_TOO_LARGE)),
+    ),
+    (
+        b"[uwsgi]\nsharedarea = 1\ncache2 = name=a,items=1020,blocksize=1048576,keysize=8,hashsize=441345\n",
+        Some((3, AREA_TOO_LARGE)),
+    ),
+    (
+        b"[uwsgi]\nsharedarea = 1\ncache2 = name=a,items=1020,blocksize=1048576,keysize=8,hashsize=439257\n",
+        None,
+    ),
+];
+
+// The tables of requests and of tasks stand apart.
+const TWO_TABLES: [Row; 13] = [
+    (b"[uwsgi]\nroute-label = a\nspool-label = a\n", None),
+    (
+        b"[uwsgi]\nroute-run = goto:a\nspool-label = a\n",
+        Some((2, NOT_AHEAD)),
+    ),
+    (
+        b"[uwsgi]\nspool-run = goto:a\nroute-label = a\n",
+        Some((2, NOT_AHEAD)),
+    ),
+    (b"[uwsgi]\nspool-run = send:x\n", Some((2, UNKNOWN))),
+    (b"[uwsgi]\nroute-run = spool-end:0\n", Some((2, UNKNOWN))),
+    (
+        b"[uwsgi]\nspool-run = spool-end:-1\nroute-run = spool:a=b\n",
+        None,
+    ),
+    (
+        b"[uwsgi]\nroute-run = nothing\nspool-run = goto:a\n",
+        Some((2, UNKNOWN)),
+    ),
+    (
+        b"[uwsgi]\nspool-run = goto:a\nroute-run = nothing\n",
+        Some((2, NOT_AHEAD)),
+    ),
+    (
+        b"[uwsgi]\nspool-run = goto:a\nworkers = 0\nroute-run = nothing\n",
+        Some((2, NOT_AHEAD)),
+    ),
+    (
+        b"[uwsgi]\nworkers = 0\nspool-run = goto:a\n",
+        Some((2, ConfKind::BadValue)),
+    ),
+    (
+        b"[uwsgi]\nroute-run = areaupdates:area=0,var=v\n",
+        Some((2, NO_NAME)),
+    ),
+    (
+        b"[uwsgi]\nroute-run = areaupdates:area=0,var=v\nsharedarea = 1\n",
+        None,
+    ),
+    (
+        b"[uwsgi]\nspool-run = areaupdates:area=1,var=v\nsharedarea = 1\nsharedarea = 0\n",
+        Some((2, NO_NAME)),
+    ),
+];
+
+// Lines of rules, in their order with other lines.
+const RULES: [Row; 12] = [
+    (b"[uwsgi]\nroute = ^/old/(.*)$ redirect:/new/$1\n", None),
+    (
+        b"[uwsgi]\nroute-label = a\nroute-run = goto:a\n",
+        Some((3, ConfKind::Rule(RuleKind::LabelNotAhead))),
+    ),
+    (
+        b"[uwsgi]\nroute = ( break\n",
+        Some((2, ConfKind::Rule(RuleKind::BadPattern))),
+    ),
+    (
+        b"[uwsgi]\nroute-run = cachedel:key=a\n",
+        Some((2, ConfKind::Rule(RuleKind::UnknownName))),
+    ),
+    (
+        b"[uwsgi]\nroute-run = cachedel:key=a\ncache2 = name=c,items=1\n",
+        None,
+    ),
+    (
+        b"[uwsgi]\nroute-run = cachedel:key=a,name=c\ncache2 = name=c,items=0\n",
+        Some((2, ConfKind::Rule(RuleKind::UnknownName))),
+    ),
+    (
+        b"[uwsgi]\nworkers = 0\nroute = ( break\n",
+        Some((2, ConfKind::BadValue)),
+    ),
+    (
+        b"[uwsgi]\nroute = ( break\nworkers = 0\n",
+        Some((2, ConfKind::Rule(RuleKind::BadPattern))),
+    ),
+    (
+        b"[uwsgi]\nroute-run = goto:a\nworkers = 0\nroute-label = a\n",
+        Some((3, ConfKind::BadValue)),
+    ),
+    (
+        b"[uwsgi]\nroute-run = goto:a\nroute-label = a b\n",
+        Some((2, ConfKind::Rule(RuleKind::LabelNotAhead))),
+    ),
+    (b"[other]\nroute = ( break\n", None),
+    (b"route = ( break\n", Some((1, ConfKind::BadLine))),
+];
+
+// Whether each text has its refusal, or none.
+fn expect(rt: &impl Abort, alloc: Global, rows: &[Row]) -> Result<(), Memory> {
+    for (text, want) in rows {
+        let found = fault(rt, alloc, text)?.map(|fault| (fault.line, fault.kind));
+        assert_eq!(rt; found, *want, "{text:?}");
+    }
+    Ok(())
+}
+
+#[test]
+fn each_refusal_names_its_line(rt: HostRuntime) -> Result<(), Fail> {
+    expect(&rt, rt.alloc(), &LINES)?;
+    expect(&rt, rt.alloc(), &CACHES)?;
+    expect(&rt, rt.alloc(), &AREAS)?;
+    expect(&rt, rt.alloc(), &TWO_TABLES)?;
+    expect(&rt, rt.alloc(), &RULES)?;
+    Ok(())
+}
+
+#[test]
+fn areas_and_tasks_say_what_they_say(rt: HostRuntime) -> Result<(), Fail> {
+    let conf = conf(
+        &rt,
+        rt.alloc(),
+        b"[uwsgi]\nsharedarea = 2\nspool-label = a\nsharedarea = size=10\n",
+    )?;
+    assert_eq!(rt; conf.areas.as_slice(), [8_192, 10].as_slice());
+    assert_eq!(rt; (conf.routes.len(), conf.tasks.len()), (0, 1));
+    assert_eq!(rt; area_words(4_096), 2_088);
+    Ok(())
+}
+
+// The refused line of a text where the first pattern is refused.
+fn fault_without_first_pattern(
+    rt: &impl Abort,
+    alloc: Global,
+    text: &[u8],
+) -> Result<Option<ConfFault>, Fail> {
+    assert!(rt; text.len() < 2_000_000);
+    let mut make = RegexPatterns::new([1].to_vec(alloc)?);
+    match read_conf(alloc, text, &mut make) {
+        Ok(_) => Ok(None),
+        Err(ConfError::Refused(fault)) => Ok(Some(fault)),
+        Err(ConfError::Memory) => Err(Fail::from(Memory)),
+    }
+}
+
+#[test]
+fn a_refused_pattern_names_its_line(rt: HostRuntime) -> Result<(), Fail> {
+    let refused = ConfKind::Rule(RuleKind::PatternRefused);
+    let rows: [(&[u8], Option<ConfFault>); 4] = [
+        (b"[uwsgi]\nroute = a break\n", at(2, refused)),
+        (b"[uwsgi]\nroute = a nothing\n", at(2, refused)),
+        (
+            b"[uwsgi]\nworkers = 0\nroute = a break\n",
+            at(2, ConfKind::BadValue),
+        ),
+        (b"[uwsgi]\nroute = a break\nworkers = 0\n", at(2, refused)),
+    ];
+    for (text, want) in rows {
+        let found = fault_without_first_pattern(&rt, rt.alloc(), text)?;
+        assert_eq!(rt; found, want, "{text:?}");
+    }
+    Ok(())
+}
+
+#[test]
+fn the_17th_area_and_the_17th_cache_are_bad_values(rt: HostRuntime) -> Result<(), Fail> {
+    let mut areas = b"[uwsgi]\n".to_vec(rt.alloc())?;
+    let mut caches = b"[uwsgi]\n".to_vec(rt.alloc())?;
+    for letter in b"abcdefghijklmnopq" {
+        assert_eq!(rt; fault(&rt, rt.alloc(), areas.as_slice())?, None);
+        assert_eq!(rt; fault(&rt, rt.alloc(), caches.as_slice())?, None);
+        areas.extend_from_slice(b"sharedarea = 1\n")?;
+        caches.extend_from_slice(b"cache2 = items=1,name=")?;
+        caches.push(*letter)?;
+        caches.push(b'\n')?;
+    }
+    let bad = at(18, ConfKind::BadValue);
+    assert_eq!(rt; fault(&rt, rt.alloc(), areas.as_slice())?, bad);
+    assert_eq!(rt; fault(&rt, rt.alloc(), caches.as_slice())?, bad);
+    Ok(())
+}
+
+#[test]
+fn a_text_of_more_than_a_mebibyte_is_refused_as_a_whole(rt: HostRuntime) -> Result<(), Fail> {
+    let text = vec![in rt.alloc(); b';'; 1_048_577]?;
+    let kind = ConfKind::TooLarge {
+        bytes: 1_048_577,
+        limit: 1_048_576,
+    };
+    assert_eq!(rt; fault(&rt, rt.alloc(), text.as_slice())?, at(0, kind));
+    let text = vec![in rt.alloc(); b';'; 1_048_576]?;
+    assert_eq!(rt; fault(&rt, rt.alloc(), text.as_slice())?, None);
+    Ok(())
+}
+
+// Blanks round everything, lines of both ends, comments, another section, and no line feed at the end.
+const TEXT: &[u8] =
+    b" [uwsgi]\t\r\n\tworkers\t = 4 \r\n# note\n  ; note\n\n[other]\nnonsense\nworkers = 9\n[uwsgi]\nbuffer-size=8192\n\
+socket = /tmp/a b = c \nmaster =\nharakiri = 86400\ncache-expire-freq=5\nspooler-processes=2\nspooler-frequency=60\n\
+cache2 = name=c,items=10,blocksize=100,bitmap=true,blocks=40,keysize=64,hashsize=7,purge_lru=1,sweep_on_full=0,clear_on_full=false,hash=djb33x\n\
+cache2 = name=d,name=e,max-items=70000,blocks=3,blocksize=8,key_size=16\nworkers = 3";
+
+#[test]
+fn options_say_what_they_say(rt: HostRuntime) -> Result<(), Fail> {
+    let conf = conf(&rt, rt.alloc(), TEXT)?;
+    assert_eq!(rt; conf.buffer_size, 8192);
+    assert_eq!(rt; conf.workers, 3);
+    assert_eq!(rt; conf.harakiri, 86_400);
+    assert_eq!(rt; conf.expire_freq, 5);
+    assert_eq!(rt; conf.spoolers, 2);
+    assert_eq!(rt; conf.spool_freq, 60);
+    assert_eq!(rt; conf.socket.as_slice(), b"/tmp/a b = c".as_slice());
+    assert_eq!(rt; conf.caches.len(), 2);
+    Ok(())
+}
+
+#[test]
+fn caches_say_what_they_say(rt: HostRuntime) -> Result<(), Fail> {
+    let conf = conf(&rt, rt.alloc(), TEXT)?;
+    let [c, e] = conf.caches.as_slice() else {
+        return Err(Memory.into());
+    };
+    assert_eq!(rt; c.name.as_slice(), b"c".as_slice());
+    assert_eq!(rt; (c.items, c.blocksize, c.blocks), (10, 104, 40));
+    assert_eq!(rt; (c.keysize, c.chains), (64, 7));
+    assert!(rt; c.bitmap && c.purge_lru && !c.sweep_on_full && !c.clear_on_full);
+    assert_eq!(rt; e.name.as_slice(), b"e".as_slice());
+    assert_eq!(rt; (e.items, e.blocksize, e.blocks), (70_000, 8, 70_000));
+    assert_eq!(rt; (e.keysize, e.chains), (16, 65_536));
+    assert!(rt; !e.bitmap && !e.purge_lru && !e.sweep_on_full && !e.clear_on_full);
+    Ok(())
+}
+
+#[test]
+fn an_empty_text_says_the_defaults(rt: HostRuntime) -> Result<(), Fail> {
+    let conf = conf(&rt, rt.alloc(), b"")?;
+    assert_eq!(rt;
+        (conf.buffer_size, conf.workers, conf.harakiri),
+        (4096, 1, 0)
+    );
+    assert_eq!(rt;
+        (conf.expire_freq, conf.spoolers, conf.spool_freq),
+        (3, 1, 30)
+    );
+    assert_eq!(rt; conf.socket.len(), 0);
+    assert_eq!(rt; conf.caches.len(), 0);
+    Ok(())
+}
+
+#[test]
+fn a_region_has_its_words(rt: HostRuntime) {
+    let conf = CacheConf {
+        name: Bytes::new(rt.alloc()),
+        items: 20_000,
+        blocksize: 65_536,
+        blocks: 20_000,
+        keysize: 2_048,
+        chains: 20_000,
+        bitmap: false,
+        purge_lru: false,
+        sweep_on_full: false,
+        clear_on_full: false,
+    };
+    assert_eq!(rt; region_words(&conf), 170_126_756);
+}
