@@ -3,8 +3,6 @@
 
 pub mod commands;
 pub mod reply;
-#[cfg(test)]
-mod tests;
 
 pub use commands::{CmdFault, command};
 pub use reply::{cache_reply, fault_reply, put_in_twenty_digits, spool_reply};

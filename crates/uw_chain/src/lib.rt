@@ -25,6 +25,3 @@ pub use routing::{route, route_with, run_task, run_task_with};
 pub use searches::Searches;
 pub use spooling::{put_task, task_of};
 pub use verdict::Verdict;
-
-#[cfg(test)]
-mod tests;

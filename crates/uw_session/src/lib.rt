@@ -10,6 +10,3 @@ mod taking;
 pub use answering::{Answered, answer_packet};
 pub use faults::{Form, Refusal, ServeFault, Served};
 pub use serving::{serve_one, serve_with};
-
-#[cfg(test)]
-mod tests;

@@ -9,6 +9,3 @@ mod turns;
 
 pub use report::{Outcome, RoundFault, RoundReport, TaskLine};
 pub use rounds::{round, round_with};
-
-#[cfg(test)]
-mod tests;

@@ -1,23 +1,21 @@
 // Requests over sources, sinks and desks in memory.
-ghost use Rattle.std.specs.Prelude.{◌≡◌, ◌<◌, ◌≤◌, ◌^◌, length, IfOk};
-ghost use Rattle.uw_keeper.specs.Rows.{AreRows};
 ghost use Rattle.uw_rules.specs.Compiled.{rules_of};
 ghost use Rattle.uw_rules.specs.PartNumbers.{AskPartsBelow};
 ghost use Rattle.uw_conf.specs.Given.{parts_in};
 ghost use Rattle.uw_conf.specs.Sound.{ArePartsOfSite};
 
-use crate::{Form, ServeFault, Served, answer_packet, serve_one, serve_with};
+use crate::sites::{conf_of, rows_of};
 use std::alloc::Global;
 use std::process::Abort;
 use std::test::Fail;
 use uw_base::{Bytes, Memory};
 use uw_chain::Searches;
-use uw_conf::{Conf, ConfError, read_conf};
-use uw_keeper::{MemKeeper, Row};
+use uw_conf::Conf;
+use uw_keeper::MemKeeper;
 use uw_model::ListDesk;
 use uw_outside::{BytesIn, BytesOut, Immortal};
 use uw_packet::{Header, Packet};
-use uw_rules::RegexPatterns;
+use uw_session::{Form, ServeFault, Served, answer_packet, serve_one, serve_with};
 
 // What came of a request, without its packet, its reply and its asks, of which only the number is told.
 #[derive(Clone, Copy, Debug, PartialEq, Eq)]
@@ -103,7 +101,7 @@ const EMPTY: Case = Case {
     outcomes: [Outcome::Nothing, Outcome::Nothing],
 };
 
-const CASES: [Case; 20] = [
+const CASES: [Case; 16] = [
     EMPTY,
     // Requests through two rules, in both forms.
     Case {
@@ -132,21 +130,6 @@ const CASES: [Case; 20] = [
         input: HIT,
         output: b"\x00\x00\x00\x00",
         outcomes: [Outcome::Served { asks: 0 }, Outcome::Nothing],
-        ..EMPTY
-    },
-    // Commands, and refused ones.
-    Case {
-        form: Form::Framed,
-        input: SET_AND_GET,
-        output: b"\x02\x00\x00\x00ok\x01\x00\x00\x00v",
-        outcomes: [Outcome::Served { asks: 1 }, Outcome::Served { asks: 1 }],
-        ..EMPTY
-    },
-    Case {
-        conf: b"[uwsgi]\n",
-        input: SET_AND_GET,
-        output: b"unknown cache",
-        outcomes: [Outcome::Served { asks: 0 }, Outcome::Served { asks: 0 }],
         ..EMPTY
     },
     // A body is dropped, whose length is then at its limit, above it, and no number.
@@ -197,17 +180,6 @@ const CASES: [Case; 20] = [
         ],
         ..EMPTY
     },
-    // Sources that end too early.
-    Case {
-        input: b"\x6f\x06\x00",
-        outcomes: [Outcome::Truncated { got: 3, want: 4 }, Outcome::Nothing],
-        ..EMPTY
-    },
-    Case {
-        input: b"\x6f\x06\x00\x01\x01\x00k",
-        outcomes: [Outcome::Truncated { got: 3, want: 6 }, Outcome::Nothing],
-        ..EMPTY
-    },
     // Reads that fail: of the header, of the block, and of the body. What came before is gone, and nothing is asked.
     Case {
         input: HIT,
@@ -245,20 +217,6 @@ const CASES: [Case; 20] = [
         ..EMPTY
     },
 ];
-
-// What a text says, which is no refused one.
-fn conf_of(rt: &impl Abort, alloc: Global, text: &[u8]) -> Result<Conf, Memory>
-    ensures parts { IfOk result (λ conf. ArePartsOfSite conf.caches conf.areas) }
-    ensures known { IfOk result (λ conf. AskPartsBelow (parts_in conf) (rules_of conf.routes)) }
-{
-    assert!(rt; text.len() < 1_000_000);
-    let mut make = RegexPatterns::new(Vec::new(alloc));
-    match read_conf(alloc, text, &mut make) {
-        Ok(conf) => Ok(conf),
-        Err(ConfError::Refused(_)) => panic!(rt; "a refused configuration"),
-        Err(ConfError::Memory) => Err(Memory),
-    }
-}
 
 // Serves two requests, each with searches of its own.
 fn served(
@@ -405,12 +363,11 @@ fn a_packet_is_answered_without_a_source_or_a_sink(rt: HostRuntime) -> Result<()
     Ok(())
 }
 
-// A task of a source: the number of the last row, 0 where there is none, the calls of the keeper that fail, the input, what
-// is written, and the bytes of the last row behind it.
+// A task of a source: the number of the last row, 0 where there is none, the input, what is written, and the bytes of the
+// last row behind it.
 #[derive(Clone, Copy)]
 struct Put {
     last: u64,
-    fails: &'static [u64],
     input: &'static [u8],
     output: &'static [u8],
     row: &'static [u8],
@@ -419,14 +376,12 @@ struct Put {
 // A task without a body, over a keeper without a row.
 const PUT: Put = Put {
     last: 0,
-    fails: &[],
     input: b"\x11\x0c\x00\x00\x04\x00kind\x04\x00done",
     output: b"ok 00000000000000000001",
     row: b"\x11\x0c\x00\x00\x04\x00kind\x04\x00done",
 };
 
-const PUTS: [Put; 7] = [
-    PUT,
+const PUTS: [Put; 5] = [
     Put {
         last: 41,
         output: b"ok 00000000000000000042",
@@ -443,16 +398,10 @@ const PUTS: [Put; 7] = [
         row: b"\x11\x0c\x00\x00\x04\x00kind\x04\x00donez",
         ..PUT
     },
-    // What is refused, or fails.
+    // What is refused, and what has no number.
     Put {
         input: b"\x11\x03\x00\x00\x01\x00k",
         output: b"",
-        row: b"",
-        ..PUT
-    },
-    Put {
-        fails: &[1],
-        output: b"failed",
         row: b"",
         ..PUT
     },
@@ -463,20 +412,6 @@ const PUTS: [Put; 7] = [
         ..PUT
     },
 ];
-
-// The row of a number from 1 on, without bytes; none for 0.
-fn rows_of(alloc: Global, number: u64) -> Result<Vec<Row>, Memory>
-    ensures { IfOk result (λ rows. AreRows rows.items) }
-{
-    if number == 0 {
-        return Ok(Vec::new(alloc));
-    }
-    let row = Row {
-        number,
-        bytes: Bytes::new(alloc),
-    };
-    Ok(Vec::from_array(alloc, [row])?)
-}
 
 // What is written for the task, and the bytes of the last row behind it; no byte where there is no row.
 #[derive(Drop)]
@@ -518,7 +453,7 @@ fn put_aside(alloc: Global, conf: &Conf, case: &Put) -> Result<Left, Memory>
 {
     let mut src = BytesIn::new(case.input.to_vec(alloc)?, Vec::new(alloc));
     let mut snk = BytesOut::new(Vec::new(alloc), Vec::new(alloc));
-    let mut keep = MemKeeper::new(rows_of(alloc, case.last)?, case.fails.to_vec(alloc)?);
+    let mut keep = MemKeeper::new(rows_of(alloc, case.last)?, Vec::new(alloc));
     served_with_keeper(alloc, conf, &mut src, &mut snk, &mut keep)?;
     let row = match keep.rows().last() {
         Some(row) => row.bytes.as_slice().to_vec(alloc)?,

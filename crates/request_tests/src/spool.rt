@@ -1,106 +1,44 @@
 // Rounds of rows by worked examples, over a keeper in memory and no cache.
-ghost use Rattle.std.specs.Prelude.{◌≡◌, ◌<◌, IfOk};
-ghost use Rattle.std.specs.Bool.{OnTrue};
+ghost use Rattle.std.specs.Prelude.{◌<◌};
+ghost use Rattle.uw_conf.specs.Given.{parts_in};
+ghost use Rattle.uw_conf.specs.Sound.{ArePartsOfSite};
 ghost use Rattle.uw_rules.specs.Compiled.{rules_of};
 ghost use Rattle.uw_rules.specs.PartNumbers.{AskPartsBelow};
-ghost use Rattle.uw_rules.specs.Tables.{AreRuleLines, IsRuleLine};
 
-use crate::{Outcome, RoundFault, RoundReport, TaskLine, round};
+use crate::sites::conf_of;
 use std::alloc::Global;
 use std::process::Abort;
-use std::str;
 use std::test::Fail;
-use uw_base::{Bytes, BytesList, Memory, NumberList};
+use uw_conf::Conf;
 use uw_keeper::{Keeper, MemKeeper};
-use uw_model::{CacheConfList, ListDesk};
+use uw_model::ListDesk;
 use uw_outside::Immortal;
-use uw_rules::{
-    RegexPatterns, RuleLine, RuleLineList, RuleTable, RulesError, is_rule_option, read_rules,
-};
+use uw_spool::{Outcome, RoundFault, RoundReport, TaskLine, round};
 
 // The moment of every round.
 const MOMENT: u64 = 10;
 
 // What a task does by its variable `do` and its body.
-const RULES: [(&[u8], &[u8]); 6] = [
-    (b"spool-if", b"equal:${do};done spool-end:-2"),
-    (b"spool-if", b"equal:${do};seven spool-end:7"),
-    (b"spool-if", b"equal:${do};three spool-end:-3"),
-    (b"spool-if", b"equal:${body};hi spool-end:-2"),
-    (b"spool-if", b"equal:${do};more spool:do=done"),
-    (b"spool-run", b"last"),
-];
-
-// Whether this may be a line of a table.
-fn is_rule_line(line: &RuleLine) -> bool
-    ensures { OnTrue result (IsRuleLine line.now) }
-{
-    is_rule_option(line.form.as_slice())
-        && str::from_utf8(line.text.as_slice()).is_ok()
-        && line.text.len() < 2_000_000
-}
-
-// Whether these may be the lines of a table.
-fn is_table(lines: &[RuleLine]) -> bool
-    ensures { OnTrue result (AreRuleLines lines.now) }
-{
-    for here in 0..lines.len() {
-        if !is_rule_line(&lines[here]) {
-            return false;
-        }
-        if 0 < here && lines[here].line <= lines[here - 1].line {
-            return false;
-        }
-    }
-    true
-}
-
-// The lines of the rules, numbered from 1.
-fn lines_of(alloc: Global) -> Result<RuleLineList, Memory> {
-    let mut lines = RuleLineList::new(alloc);
-    for (form, text) in RULES {
-        let line = lines.len().min(100_000) as u32 + 1;
-        lines.push(RuleLine {
-            line,
-            form: Bytes::from_slice(alloc, form)?,
-            text: Bytes::from_slice(alloc, text)?,
-        })?;
-    }
-    Ok(lines)
-}
-
-// The rules, none of which may be refused.
-fn table_of(rt: &impl Abort, alloc: Global) -> Result<RuleTable, Memory>
-    ensures { IfOk result (λ table. AskPartsBelow (record { caches = 0; areas = 0 }) (rules_of table)) }
-{
-    let lines = lines_of(alloc)?;
-    assert!(rt; is_table(lines.as_slice()));
-    let names = BytesList::new(alloc);
-    let mut make = RegexPatterns::new(Vec::new(alloc));
-    match read_rules(alloc, &lines, &names, 0, &mut make) {
-        Ok(table) => Ok(table),
-        Err(RulesError::Refused { line, kind }) => panic!(rt; "line {line}: {kind:?}"),
-        Err(RulesError::Memory) => Err(Memory),
-    }
-}
+const RULES: &[u8] =
+    b"[uwsgi]\nspool-if = equal:${do};done spool-end:-2\nspool-if = equal:${do};seven spool-end:7\nspool-if = equal:${do};three spool-end:-3\n\
+spool-if = equal:${body};hi spool-end:-2\nspool-if = equal:${do};more spool:do=done\nspool-run = last\n";
 
 // A round over a keeper.
 fn ran(
     alloc: Global,
-    table: &RuleTable,
+    conf: &Conf,
     keep: &mut MemKeeper,
     k: u32,
     n: u32,
 ) -> Result<RoundReport, RoundFault>
-    requires known { AskPartsBelow (record { caches = 0; areas = 0 }) (rules_of table.now) }
+    requires parts { ArePartsOfSite conf.now.caches conf.now.areas }
+    requires known { AskPartsBelow (parts_in conf.now) (rules_of conf.now.tasks) }
     requires spooler { k < n }
 {
-    let confs = CacheConfList::new(alloc);
-    let sizes = NumberList::new(alloc);
-    match ListDesk::new(alloc, &confs, &sizes) {
+    match ListDesk::new(alloc, &conf.caches, &conf.areas) {
         Ok(mut desk) => {
             let life = &mut Immortal::new();
-            round(alloc, table, MOMENT, k, n, life, &mut desk, keep)
+            round(alloc, &conf.tasks, MOMENT, k, n, life, &mut desk, keep)
         }
         Err(_) => Err(RoundFault::Memory {
             done: RoundReport::new(alloc),
@@ -169,7 +107,7 @@ const OUTCOMES: [(&[u8], Outcome, bool); 16] = [
 #[test]
 fn rows_have_their_outcomes(rt: HostRuntime) -> Result<(), Fail> {
     let alloc = rt.alloc();
-    let table = table_of(&rt, alloc)?;
+    let conf = conf_of(&rt, alloc, RULES)?;
     for (bytes, outcome, gone) in OUTCOMES {
         let mut keep = keeper_of(&rt, alloc, &[bytes], Vec::new(alloc));
         let want = [TaskLine {
@@ -177,7 +115,7 @@ fn rows_have_their_outcomes(rt: HostRuntime) -> Result<(), Fail> {
             outcome,
             gone,
         }];
-        match ran(alloc, &table, &mut keep, 0, 1) {
+        match ran(alloc, &conf, &mut keep, 0, 1) {
             Ok(report) => assert_eq!(rt; report.as_slice(), want.as_slice(), "{bytes:?}"),
             Err(_) => panic!(rt; "{bytes:?}"),
         }
@@ -204,11 +142,11 @@ const ROUNDS: [(u32, u32, &[u64], usize); 5] = [
 #[test]
 fn spoolers_share_the_rows(rt: HostRuntime) -> Result<(), Fail> {
     let alloc = rt.alloc();
-    let table = table_of(&rt, alloc)?;
+    let conf = conf_of(&rt, alloc, RULES)?;
     let mut keep = keeper_of(&rt, alloc, &[MORE, DONE, DONE, DONE], Vec::new(alloc));
     for (k, n, numbers, rows) in ROUNDS {
         assert!(rt; k < n);
-        match ran(alloc, &table, &mut keep, k, n) {
+        match ran(alloc, &conf, &mut keep, k, n) {
             Ok(report) => {
                 let lines = report.as_slice();
                 assert_eq!(rt; lines.len(), numbers.len());
@@ -231,12 +169,12 @@ const FAILING: [(u64, usize); 6] = [(1, 0), (2, 0), (3, 0), (4, 1), (5, 2), (6, 
 #[test]
 fn a_keeper_that_fails_ends_the_round(rt: HostRuntime) -> Result<(), Fail> {
     let alloc = rt.alloc();
-    let table = table_of(&rt, alloc)?;
+    let conf = conf_of(&rt, alloc, RULES)?;
     for (place, lines) in FAILING {
         let mut fails = Vec::new(alloc);
         fails.push(place + 3)?;
         let mut keep = keeper_of(&rt, alloc, &[DONE, b"", DONE], fails);
-        match ran(alloc, &table, &mut keep, 0, 1) {
+        match ran(alloc, &conf, &mut keep, 0, 1) {
             Err(RoundFault::KeeperFault { done }) => assert_eq!(rt; done.len(), lines, "{place}"),
             _ => panic!(rt; "{place}"),
         }
@@ -250,12 +188,12 @@ const LONG: [(usize, Outcome); 2] = [(1_048_572, Outcome::Status(-1)), (1_048_57
 #[test]
 fn a_row_has_a_mebibyte_at_most(rt: HostRuntime) -> Result<(), Fail> {
     let alloc = rt.alloc();
-    let table = table_of(&rt, alloc)?;
+    let conf = conf_of(&rt, alloc, RULES)?;
     for (count, outcome) in LONG {
         let mut bytes = b"\x11\x00\x00\x00".to_vec(alloc)?;
         bytes.resize(count + 4, 0)?;
         let mut keep = keeper_of(&rt, alloc, &[bytes.as_slice()], Vec::new(alloc));
-        match ran(alloc, &table, &mut keep, 0, 1) {
+        match ran(alloc, &conf, &mut keep, 0, 1) {
             Ok(report) => {
                 let lines = report.as_slice();
                 assert_eq!(rt; lines.len(), 1);

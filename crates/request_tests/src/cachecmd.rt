@@ -1,9 +1,9 @@
 // Commands and replies by worked examples.
-use crate::{CmdFault, cache_reply, command, fault_reply, spool_reply};
-use std::alloc::{AllocError, Global};
+use std::alloc::Global;
 use std::process::Abort;
 use std::test::Fail;
 use uw_base::{Bytes, BytesList, Memory};
+use uw_cachecmd::{CmdFault, cache_reply, command, fault_reply, spool_reply};
 use uw_model::{Answer, Ask, Call, MathOp, SpoolAnswer};
 
 // The names of the caches, in most rows.
@@ -18,16 +18,6 @@ fn list(alloc: Global, texts: &[&str]) -> Result<BytesList, Memory> {
         list.push(Bytes::from_slice(alloc, text.as_bytes())?)?;
     }
     Ok(list)
-}
-
-// These texts, each behind its length in two bytes. They are shorter than 256 bytes.
-fn block(alloc: Global, texts: &[&str]) -> Result<Vec<u8>, AllocError> {
-    let mut block = Vec::new(alloc);
-    for text in texts {
-        block.extend_from_slice(&[(text.len() % 256) as u8, 0])?;
-        block.extend_from_slice(text.as_bytes())?;
-    }
-    Ok(block)
 }
 
 // What a block asks, at a modifier that asks a cache.
@@ -68,49 +58,10 @@ fn op_name(op: MathOp) -> &'static str {
     }
 }
 
-// In each row: the command, and whether its call has a key, a value, seconds, an amount.
-#[test]
-fn each_word_commands_its_call(rt: HostRuntime) -> Result<(), Fail> {
-    let rows = [
-        ("get", "k", "", 0, 0),
-        ("set", "k", "v", 7, 0),
-        ("update", "k", "v", 7, 0),
-        ("del", "k", "", 0, 0),
-        ("exists", "k", "", 0, 0),
-        ("clear", "", "", 0, 0),
-        ("num", "k", "", 0, 0),
-        ("inc", "k", "", 7, -3),
-        ("dec", "k", "", 7, -3),
-        ("mul", "k", "", 7, -3),
-        ("div", "k", "", 7, -3),
-        ("keys", "", "", 0, 0),
-        ("sweep", "", "", 0, 0),
-    ];
-    let names = list(rt.alloc(), NAMES)?;
-    for (word, key, value, ttl, by) in rows {
-        let texts = [
-            "key", "k", "value", "v", "expires", "7", "amount", "-3", "other", "x", "cmd", word,
-        ];
-        let block = block(rt.alloc(), &texts)?;
-        match ask(&rt, rt.alloc(), 200, block.as_slice(), &names) {
-            Ok(Ask::Cache { cache, call }) => {
-                let found = parts(&call);
-                assert_eq!(rt; (cache, found.0), (0, word));
-                assert_eq!(rt; found.1, key.as_bytes(), "{word}");
-                assert_eq!(rt; found.2, value.as_bytes(), "{word}");
-                assert_eq!(rt; (found.3, found.4), (ttl, by), "{word}");
-            }
-            Ok(_) => panic!(rt; "no call at {word}"),
-            Err(fault) => panic!(rt; "{fault:?} at {word}"),
-        }
-    }
-    Ok(())
-}
-
 // In each row: modifier2, the block, and the cache, the name, the seconds and the amount of what it asks, of the key `k`.
 #[test]
 fn blocks_ask_a_cache(rt: HostRuntime) -> Result<(), Fail> {
-    let rows: [(u8, &[u8], (u32, &str, u64, i64)); 11] = [
+    let rows: [(u8, &[u8], (u32, &str, u64, i64)); 13] = [
         (0, b"k", (0, "get", 0, 0)),
         (2, b"k", (0, "del", 0, 0)),
         (1, b"\x01\0k\x01\0v", (0, "set", 0, 0)),
@@ -137,6 +88,16 @@ fn blocks_ask_a_cache(rt: HostRuntime) -> Result<(), Fail> {
             200,
             b"\x03\0cmd\x03\0get\x03\0key\x01\0x\x03\0cmd\x03\0del\x03\0key\x01\0k",
             (0, "del", 0, 0),
+        ),
+        (
+            200,
+            b"\x03\0cmd\x06\0update\x03\0key\x01\0k\x07\0expires\x01\x007",
+            (0, "update", 7, 0),
+        ),
+        (
+            200,
+            b"\x03\0cmd\x03\0div\x03\0key\x01\0k\x07\0expires\x01\x007\x06\0amount\x02\0-3",
+            (0, "div", 7, -3),
         ),
     ];
     let names = list(rt.alloc(), &["c", "d", "d"])?;
