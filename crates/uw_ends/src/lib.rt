@@ -11,6 +11,3 @@ mod words;
 pub use ends::{BadPacket, Brief, BriefList, RunEnd, RunFault};
 pub use texts::fault_text;
 pub use words::{Command, WordsFault, read_words};
-
-#[cfg(test)]
-mod tests;

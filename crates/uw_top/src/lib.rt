@@ -10,6 +10,3 @@ mod spool;
 
 pub use runs::run;
 pub use uw_ends::{BadPacket, Brief, BriefList, RunEnd, RunFault, fault_text};
-
-#[cfg(test)]
-mod tests;

@@ -1,18 +1,19 @@
 // Runs over sources, sinks and clocks in memory.
-use crate::{RunEnd, fault_text, run};
 use std::alloc::{AllocError, Global};
 use std::test::Fail;
-use uw_keeper::MemKeeper;
+use uw_keeper::{Keeper, MemKeeper};
 use uw_outside::{BytesIn, BytesOut, FixedClock};
 use uw_rules::RegexPatterns;
+use uw_top::{RunEnd, fault_text, run};
 
-// A run over a keeper without a row: its words, its configuration and input, the reads, writes and calls of the keeper
-// that fail, the patterns that are refused, and what comes of it.
+// A run: its words, its configuration and input, the rows of its keeper, the reads, writes and calls of the keeper that
+// fail, the patterns that are refused, and what comes of it. Each row is put by a call of the keeper, which counts.
 #[derive(Clone, Copy)]
 struct Case {
     words: &'static [&'static str],
     conf: &'static [u8],
     input: &'static [u8],
+    rows: &'static [&'static [u8]],
     conf_fails: &'static [u64],
     patterns_refused: &'static [u64],
     read_fails: &'static [u64],
@@ -48,6 +49,11 @@ fn ran(alloc: Global, case: &Case, input: &[u8], moments: &[u64]) -> Result<Repo
     let mut snk = BytesOut::new(Vec::new(alloc), case.write_fails.to_vec(alloc)?);
     let mut clock = FixedClock::new(asked);
     let mut keep = MemKeeper::new(Vec::new(alloc), case.keeper_fails.to_vec(alloc)?);
+    for bytes in case.rows {
+        if keep.append(alloc, bytes).is_err() {
+            return Err(AllocError);
+        }
+    }
     let end = run(
         alloc,
         words.as_slice(),
@@ -92,6 +98,7 @@ const PIPE: Case = Case {
     words: &["pipe"],
     conf: ONE_CACHE,
     input: b"",
+    rows: &[],
     conf_fails: &[],
     patterns_refused: &[],
     read_fails: &[],
@@ -102,7 +109,7 @@ const PIPE: Case = Case {
     text: b"",
 };
 
-const CASES: [Case; 45] = [
+const CASES: [Case; 42] = [
     PIPE,
     // Rules that are refused, and rules that are taken.
     Case {
@@ -169,6 +176,12 @@ const CASES: [Case; 45] = [
         input: b"\x6f",
         status: 5,
         text: b"truncated: got 1, want 4",
+        ..PIPE
+    },
+    Case {
+        input: b"\x6f\x06",
+        status: 5,
+        text: b"truncated: got 2, want 4",
         ..PIPE
     },
     Case {
@@ -306,31 +319,7 @@ const CASES: [Case; 45] = [
         ..PIPE
     },
     Case {
-        words: &["Pipe"],
-        status: 1,
-        text: USAGE,
-        ..PIPE
-    },
-    Case {
-        words: &["pipe", "--die", "0"],
-        status: 1,
-        text: USAGE,
-        ..PIPE
-    },
-    Case {
-        words: &["pipe", "--die"],
-        status: 1,
-        text: USAGE,
-        ..PIPE
-    },
-    Case {
         words: &["pipe", "--die", "1"],
-        status: 1,
-        text: USAGE,
-        ..PIPE
-    },
-    Case {
-        words: &["load", "1"],
         status: 1,
         text: USAGE,
         ..PIPE
@@ -403,13 +392,7 @@ fn wrong(alloc: Global, cases: &[Case]) -> Result<Option<usize>, AllocError> {
     Ok(None)
 }
 
-#[test]
-fn each_run_writes_its_output_and_ends_with_its_status(rt: HostRuntime) -> Result<(), Fail> {
-    assert_eq!(rt; wrong(rt.alloc(), &CASES)?, None);
-    Ok(())
-}
-
-const REQUESTS: [Case; 7] = [
+const REQUESTS: [Case; 8] = [
     // Requests through rules, with a jump and a cached page.
     Case {
         conf: b"[uwsgi]\ncache2 = name=c,items=4,blocksize=64\nroute-run = addheader:X-Via: uw\nroute = ^/go/(.+)$ goto:there\nroute = ^/c/(.+)$ cache:key=$1,content_type=text/plain\nroute-run = break:404 Not Found\nroute-label = there\nroute-run = send:there ${PATH_INFO}\n",
@@ -456,46 +439,123 @@ const REQUESTS: [Case; 7] = [
         output: b"'\x00\x00\x00HTTP/1.1 200 OK\r\nContent-Length: 45\r\n\r\n",
         ..PIPE
     },
-];
-
-#[test]
-fn each_request_has_its_reply(rt: HostRuntime) -> Result<(), Fail> {
-    assert_eq!(rt; wrong(rt.alloc(), &REQUESTS)?, None);
-    Ok(())
-}
-
-// Areas, and tasks that are put aside.
-const AREAS_AND_TASKS: [Case; 3] = [
+    // An area.
     Case {
         conf: b"[uwsgi]\nsharedarea = size=16\nroute-run = areaset:area=0,at=8,width=64,value=258,var=A\nroute-run = areaset:area=0,at=9,width=64,value=1,var=B\nroute-run = areaset:area=0,at=0,width=8,value=255\nroute-run = areainc:area=0,at=0,width=8,by=1,var=C\nroute-run = areanum:area=0,at=8,width=16,var=D\nroute-run = send:${A}|${B}|${C}|${D}\n",
         input: b"\x00\x00\x00\x00",
         output: b"\x3b\x00\x00\x00HTTP/1.1 200 OK\r\nContent-Length: 20\r\n\r\nok|out of area|0|258",
         ..PIPE
     },
-    Case {
-        input: TASK,
-        output: b"\x17\x00\x00\x00ok 00000000000000000001",
-        ..PIPE
-    },
-    Case {
-        input: TASK,
-        keeper_fails: &[1],
-        output: b"\x06\x00\x00\x00failed",
-        ..PIPE
-    },
 ];
+
+#[test]
+fn each_run_writes_its_output_and_ends_with_its_status(rt: HostRuntime) -> Result<(), Fail> {
+    assert_eq!(rt; wrong(rt.alloc(), &CASES)?, None);
+    assert_eq!(rt; wrong(rt.alloc(), &REQUESTS)?, None);
+    Ok(())
+}
 
 const TASK: &[u8] = b"\x11\x0c\x00\x00\x04\x00kind\x04\x00done";
 
+// Rounds of two spoolers over three rows: a task that is done from the moment 20 on, one that is done, and no task. The
+// first spooler has the second row.
+const ROUNDS: Case = Case {
+    words: &["spool"],
+    conf: b"[uwsgi]\nspooler-processes = 2\nspool-if = equal:${do};done spool-end:-2\n",
+    rows: &[
+        b"\x11\x12\x00\x00\x02\x00at\x02\x0020\x02\x00do\x04\x00done",
+        b"\x11\x0a\x00\x00\x02\x00do\x04\x00done",
+        b"",
+    ],
+    output: b"00000000000000000002 -2 gone\nspooler 0 tasks 1 gone 1\n\
+00000000000000000001 later kept\n00000000000000000003 bad kept\nspooler 1 tasks 2 gone 0\n",
+    ..PIPE
+};
+
+// A moment, a run, and the rows that it leaves, each behind its number. The calls of the keeper in rounds are three that
+// put the rows, then those of a round: for the last row, for each row, and for a removal.
+const LEFT: [(u64, Case, &[u8]); 7] = [
+    // A task is put aside, or not.
+    (
+        10,
+        Case {
+            input: TASK,
+            output: b"\x17\x00\x00\x00ok 00000000000000000001",
+            ..PIPE
+        },
+        b"\x01\x11\x0c\x00\x00\x04\x00kind\x04\x00done",
+    ),
+    (
+        10,
+        Case {
+            input: TASK,
+            keeper_fails: &[1],
+            output: b"\x06\x00\x00\x00failed",
+            ..PIPE
+        },
+        b"",
+    ),
+    // Rounds at two moments.
+    (
+        19,
+        ROUNDS,
+        b"\x01\x11\x12\x00\x00\x02\x00at\x02\x0020\x02\x00do\x04\x00done\x03",
+    ),
+    (
+        20,
+        Case {
+            output: b"00000000000000000002 -2 gone\nspooler 0 tasks 1 gone 1\n\
+00000000000000000001 -2 gone\n00000000000000000003 bad kept\nspooler 1 tasks 2 gone 1\n",
+            ..ROUNDS
+        },
+        b"\x03",
+    ),
+    // The lines of the second round are not written: it was made.
+    (
+        20,
+        Case {
+            write_fails: &[2],
+            output: b"00000000000000000002 -2 gone\nspooler 0 tasks 1 gone 1\n",
+            status: 4,
+            text: b"write failed",
+            ..ROUNDS
+        },
+        b"\x03",
+    ),
+    // The removal fails; and the second round does not come to its second row.
+    (
+        20,
+        Case {
+            keeper_fails: &[7],
+            output: b"",
+            status: 7,
+            text: b"spool failed",
+            ..ROUNDS
+        },
+        b"\x01\x11\x12\x00\x00\x02\x00at\x02\x0020\x02\x00do\x04\x00done\x02\x11\x0a\x00\x00\x02\x00do\x04\x00done\x03",
+    ),
+    (
+        19,
+        Case {
+            keeper_fails: &[11],
+            output: b"00000000000000000002 -2 gone\nspooler 0 tasks 1 gone 1\n00000000000000000001 later kept\n",
+            status: 7,
+            text: b"spool failed",
+            ..ROUNDS
+        },
+        b"\x01\x11\x12\x00\x00\x02\x00at\x02\x0020\x02\x00do\x04\x00done\x03",
+    ),
+];
+
 #[test]
-fn areas_are_written_and_tasks_are_put_aside(rt: HostRuntime) -> Result<(), Fail> {
-    let alloc = rt.alloc();
-    assert_eq!(rt; wrong(alloc, &AREAS_AND_TASKS)?, None);
-    let task = ran(alloc, &PIPE, TASK, &[])?;
-    assert_eq!(rt;
-        task.rows.as_slice(),
-        b"\x01\x11\x0c\x00\x00\x04\x00kind\x04\x00done".as_slice()
-    );
+fn tasks_are_put_aside_and_run_in_rounds(rt: HostRuntime) -> Result<(), Fail> {
+    for (number, (moment, case, left)) in LEFT.iter().enumerate() {
+        let ran = ran(rt.alloc(), case, case.input, &[*moment])?;
+        assert_eq!(rt; ran.end.status, case.status, "run {number}");
+        assert_eq!(rt; ran.text.as_slice(), case.text, "run {number}");
+        assert_eq!(rt; ran.output.as_slice(), case.output, "run {number}");
+        assert_eq!(rt; ran.rows.as_slice(), *left, "run {number}");
+    }
     Ok(())
 }
 
@@ -584,6 +644,7 @@ const COMMANDS: [Commands; 13] = [
             ),
             (&[b"cmd", b"set", b"key", b"j", b"value", b"seven77"], b"ok"),
             (&[b"cmd", b"num", b"key", b"j"], b"not a number"),
+            (&[b"cmd", b"inc", b"key", b"j"], b"not a number"),
             (
                 &[
                     b"cmd",
@@ -614,7 +675,7 @@ const COMMANDS: [Commands; 13] = [
             (&[b"cmd", b"get", b"key", b"k"], b"value\nv"),
         ],
     },
-    // A get is a use, and to ask whether a key exists is none.
+    // A get is a use, and to ask whether a key exists is none. Where the least recent one is purged, nothing expires.
     Commands {
         conf: b"[uwsgi]\ncache2 = name=c,items=2,blocksize=64,purge_lru=1\n",
         moments: &[],
@@ -629,9 +690,14 @@ const COMMANDS: [Commands; 13] = [
     },
     Commands {
         conf: b"[uwsgi]\ncache2 = name=c,items=2,blocksize=64,purge_lru=1\n",
-        moments: &[],
+        moments: &[10, 10, 99],
         rows: &[
-            (&[b"cmd", b"set", b"key", b"a", b"value", b"1"], b"ok"),
+            (
+                &[
+                    b"cmd", b"set", b"key", b"a", b"value", b"1", b"expires", b"1",
+                ],
+                b"ok",
+            ),
             (&[b"cmd", b"set", b"key", b"b", b"value", b"2"], b"ok"),
             (&[b"cmd", b"get", b"key", b"a"], b"value\n1"),
             (&[b"cmd", b"set", b"key", b"c", b"value", b"3"], b"ok"),
@@ -677,6 +743,11 @@ const COMMANDS: [Commands; 13] = [
                 b"full",
             ),
             (&[b"cmd", b"get", b"key", b"k"], b"value\noooooooooooooooo"),
+            (
+                &[b"cmd", b"update", b"key", b"k", b"value", b"nnnnnnnnn"],
+                b"ok",
+            ),
+            (&[b"cmd", b"get", b"key", b"k"], b"value\nnnnnnnnnn"),
         ],
     },
     // The largest value drops all others.
@@ -687,11 +758,13 @@ const COMMANDS: [Commands; 13] = [
             (&[b"cmd", b"set", b"key", b"a", b"value", b"1"], b"ok"),
             (&[b"cmd", b"set", b"key", b"b", b"value", b"1"], b"ok"),
             (&[b"cmd", b"set", b"key", b"c", b"value", b"1"], b"ok"),
+            (&[b"cmd", b"keys"], b"keys\n\x01\x00c\x01\x00b\x01\x00a"),
             (&[b"cmd", b"set", b"key", b"d", b"value", &O32], b"ok"),
             (&[b"cmd", b"keys"], b"keys\n\x01\x00d"),
+            (&[b"cmd", b"set", b"key", b"e", b"value", &O33], b"too long"),
         ],
     },
-    // The longest key.
+    // The longest key, and the empty one, which no command takes.
     Commands {
         conf: b"[uwsgi]\ncache2 = name=c,items=4\n",
         moments: &[],
@@ -700,6 +773,11 @@ const COMMANDS: [Commands; 13] = [
             (&[b"cmd", b"set", b"key", &K2049], b"key length"),
             (&[b"cmd", b"set"], b"key length"),
             (&[b"cmd", b"get", b"key", &K2048], b"value\n"),
+            (&[b"cmd", b"del"], b"key length"),
+            (&[b"cmd", b"exists"], b"key length"),
+            (&[b"cmd", b"num"], b"key length"),
+            (&[b"cmd", b"inc"], b"key length"),
+            (&[b"cmd", b"update"], b"key length"),
         ],
     },
     // What makes room in a full cache: to drop what is dead, or all.
@@ -725,6 +803,8 @@ const COMMANDS: [Commands; 13] = [
             (&[b"cmd", b"set", b"key", b"a", b"value", b"1"], b"ok"),
             (&[b"cmd", b"set", b"key", b"b", b"value", b"2"], b"ok"),
             (&[b"cmd", b"keys"], b"keys\n\x01\x00b"),
+            (&[b"cmd", b"clear"], b"ok"),
+            (&[b"cmd", b"keys"], b"keys\n"),
         ],
     },
     // Two caches, of which the first is meant where none is named.
