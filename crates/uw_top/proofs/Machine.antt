@@ -107,20 +107,20 @@ ends_later led site left middle now taken between taken_now ended f0 f1 f2 s0 s1
 ends_later led site left middle now taken between taken_now ended f0 f1 f2 s0 s1 s2 count rest part late (Some (faults.BadPacket packet)) lf ls few e =
     (e.0, (few, e.1.1, e.1.2), e.2)
 ends_later led site left middle now taken between taken_now ended f0 f1 f2 s0 s1 s2 count rest part late (Some faults.Memory) lf ls few e = (
-      elim e.0 [
-        | inl before ↦ inl before
-        | inr behind ↦ inr (record {
-          packet = behind.packet;
-          is = behind.is;
-          moment = behind.moment;
-          read = behind.read;
-          asked = behind.asked;
-          stops = behind.stops;
-        })
-      ],
-      e.1,
-      e.2,
-    )
+  elim e.0 [
+    | inl before ↦ inl before
+    | inr behind ↦ inr (record {
+      packet = behind.packet;
+      is = behind.is;
+      moment = behind.moment;
+      read = behind.read;
+      asked = behind.asked;
+      stops = behind.stops;
+    })
+  ],
+  e.1,
+  e.2,
+)
 ends_later led site left middle now taken between taken_now ended f0 f1 f2 s0 s1 s2 count rest part late (Some faults.TooMany) lf ls few e = absurd (omega (arith, e.1.0))
 ends_later led site left middle now taken between taken_now ended f0 f1 f2 s0 s1 s2 count rest part late (Some _) lf ls few e = absurd e
 

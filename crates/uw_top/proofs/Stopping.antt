@@ -95,10 +95,10 @@ not_served led site src snk moment gave (serves.Memory done) told s =
     elim s.1 [
       | inl before ↦ stopped led site src snk moment gave before.2.0 (Some faults.Memory) told before.2.1 s.0 (inl (before.2.2, before.1), refl, omega arith)
       | inr behind ↦ let x = behind.0 in
-      let stops : Stops led unbounded unbounded x.moment (course_of_site site x) done chains.Memory =
-      subst (λ (m : ℕ). Stops led unbounded unbounded m (course_of_site site x) done chains.Memory) (sym behind.1.0) behind.2 in
-      stopped led site src snk moment gave _ (Some faults.Memory) told behind.1.2 s.0
-      (inr (record { packet = x; is = behind.1.1; moment = ap (λ (m : ℕ). m ∷ []) (sym behind.1.0); read = refl; asked = done; stops = stops }), refl, omega arith)
+          let stops : Stops led unbounded unbounded x.moment (course_of_site site x) done chains.Memory =
+          subst (λ (m : ℕ). Stops led unbounded unbounded m (course_of_site site x) done chains.Memory) (sym behind.1.0) behind.2 in
+          stopped led site src snk moment gave _ (Some faults.Memory) told behind.1.2 s.0
+          (inr (record { packet = x; is = behind.1.1; moment = ap (λ (m : ℕ). m ∷ []) (sym behind.1.0); read = refl; asked = done; stops = stops }), refl, omega arith)
     ]
 
 -- a request that was served

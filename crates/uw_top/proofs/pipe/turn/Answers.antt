@@ -10,9 +10,11 @@ use Rattle.uw_top.proofs.Stopping.{no_memory, not_served, served}
 use Rattle.uw_top.proofs.pipe.turn.Goals as goal
 
 pub returns-then-is_err-clause-turn : goal.returns-then-is_err-clause-turn
-returns-then-is_err-clause-turn g c = λ site is.
-    (c.reserve.ensures.items, no_memory (both_lead g.D.Desk.leads (c.args.desk.now, keeping g.P.Keeper.rows g.P.Keeper.append_faults g.P.Keeper.other_faults c.args.keep.now) (c.args.desk.now, keeping g.P.Keeper.rows g.P.Keeper.append_faults g.P.Keeper.other_faults c.args.keep.now)) site _ _ _ _ _ _ _ c.now-moment.result _ c.now-moment.ensures
-    (g.met.D.Desk.leads_none c.args.desk.now, kept_none (keeping g.P.Keeper.rows g.P.Keeper.append_faults g.P.Keeper.other_faults c.args.keep.now)))
+returns-then-is_err-clause-turn g c = λ site is. (
+  c.reserve.ensures.items,
+  no_memory (both_lead g.D.Desk.leads (c.args.desk.now, keeping g.P.Keeper.rows g.P.Keeper.append_faults g.P.Keeper.other_faults c.args.keep.now) (c.args.desk.now, keeping g.P.Keeper.rows g.P.Keeper.append_faults g.P.Keeper.other_faults c.args.keep.now)) site _ _ _ _ _ _ _ c.now-moment.result _ c.now-moment.ensures
+      (g.met.D.Desk.leads_none c.args.desk.now, kept_none (keeping g.P.Keeper.rows g.P.Keeper.append_faults g.P.Keeper.other_faults c.args.keep.now)),
+)
 
 pub returns-in-Ok-clause-turn : goal.returns-in-Ok-clause-turn
 returns-in-Ok-clause-turn g c = λ site is.
