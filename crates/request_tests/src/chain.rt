@@ -11,7 +11,7 @@ use std::alloc::Global;
 use std::process::Abort;
 use std::test::Fail;
 use uw_base::{Memory, Vars};
-use uw_chain::{Routed, put_task, route, run_task};
+use uw_chain::{Routed, TaskEnd, put_task, route, run_task};
 use uw_conf::Conf;
 use uw_keeper::MemKeeper;
 use uw_model::{ListDesk, SpoolAnswer};
@@ -278,6 +278,26 @@ const STATUSES: [(&[u8], i64, usize); 4] = [
     (b"more", 0, 1),
 ];
 
+// Runs a task over the caches and the area.
+fn ran(
+    alloc: Global,
+    conf: &Conf,
+    desk: &mut ListDesk,
+    keep: &mut MemKeeper,
+    what: &[u8],
+) -> Result<TaskEnd, Memory>
+    requires known { AskPartsBelow (parts_in conf.now) (rules_of conf.now.tasks) }
+    requires caches { length desk.old.caches ≡ length conf.now.caches }
+    requires areas { length desk.old.areas ≡ length conf.now.areas }
+{
+    let vars = vars_of(alloc, &[(b"do", what)])?;
+    let life = &mut Immortal::new();
+    match run_task(alloc, &conf.tasks, vars, MOMENT, life, desk, keep) {
+        Ok(end) => Ok(end),
+        Err(_) => Err(Memory),
+    }
+}
+
 #[test]
 fn tasks_have_their_statuses(rt: HostRuntime) -> Result<(), Fail> {
     let alloc = rt.alloc();
@@ -285,23 +305,9 @@ fn tasks_have_their_statuses(rt: HostRuntime) -> Result<(), Fail> {
     let mut keep = MemKeeper::new(Vec::new(alloc), [1].to_vec(alloc)?);
     for (what, status, asks) in STATUSES {
         let mut desk = ListDesk::new(alloc, &conf.caches, &conf.areas)?;
-        let vars = vars_of(alloc, &[(b"do", what)])?;
-        let mut life = Immortal::new();
-        match run_task(
-            alloc,
-            &conf.tasks,
-            vars,
-            MOMENT,
-            &mut life,
-            &mut desk,
-            &mut keep,
-        ) {
-            Ok(end) => {
-                assert_eq!(rt; end.status, status, "{what:?}");
-                assert_eq!(rt; end.asks.len(), asks, "{what:?}");
-            }
-            Err(fault) => panic!(rt; "{:?}", fault.end),
-        }
+        let end = ran(alloc, &conf, &mut desk, &mut keep, what)?;
+        assert_eq!(rt; end.status, status, "{what:?}");
+        assert_eq!(rt; end.asks.len(), asks, "{what:?}");
     }
     Ok(())
 }
