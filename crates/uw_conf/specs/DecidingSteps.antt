@@ -16,7 +16,7 @@ use Rattle.uw_conf.specs.declared.reading.Walk.{Walk}
 use Rattle.uw_conf.specs.Configuration.{lesser_fault, said_by}
 use Rattle.uw_conf.specs.Given.{HasRulesOf, IsPatternRefused, options_in}
 
--- a reading of lines is what they say, with their rules, and no pattern was refused; or the least refused line; or a rule's line whose pattern was refused and counted, and before which none is refused
+-- a reading of lines is what they say, with their rules, and no pattern was refused; or the least refused line; or a rule's line with a pattern before which none is refused, where one was refused and counted
 abbrev pub ReadsLines : List (List ℕ) → ℕ → ℕ → Result Conf ConfError → Type 0
 ReadsLines lines before after (Ok conf) = (said_by lines ≡ Ok (options_in conf)) × HasRulesOf lines conf × (after ≡ before)
 ReadsLines lines before after (Err (errors.Refused fault)) = ((said_by lines ≡ Err fault) × (before ≤ after)) ⊎ (IsPatternRefused lines fault × Rose before after)

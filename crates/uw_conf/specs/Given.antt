@@ -55,8 +55,8 @@ pub record IsPatternRefused (lines : List (List ℕ)) (fault : ConfFault) : Type
   pub kind : fault.kind ≡ kinds.Rule refusals.PatternRefused
   pub least : IfErr (said_by lines) (λ (other : ConfFault). fault.line ≤ other.line)
 
--- a reading of a text is the defined configuration with its rules, and the maker of patterns refused none; or the least refused line; or a rule's line whose pattern the
--- maker refused and counted, and before which none is refused; or there was no memory
+-- a reading of a text is the defined configuration with its rules, and the maker of patterns refused none; or the least refused line; or a rule's line with a pattern
+-- before which none is refused, where the maker refused a pattern in this reading and counted that; or there was no memory
 abbrev pub ReadsConf : List ℕ → ℕ → ℕ → Result Conf ConfError → Type 0
 ReadsConf text before after (Ok conf) = (configuration_of text ≡ Ok (options_in conf)) × HasRulesOf (lines text) conf × (after ≡ before)
 ReadsConf text before after (Err (errors.Refused fault)) =

@@ -101,7 +101,7 @@ fn read_tables<M: Patterns>(alloc: Global, walk: Walk, make: &mut M) -> Result<C
 
 /// What a configuration says: its options in the section `uwsgi`, each on a line of its own, with its rules, whose
 /// patterns `make` compiles; or its least refused line. A text that is too large is refused as a whole. A rule is
-/// refused as `PatternRefused` only where `make` refused its pattern and counted that. The rules ask caches and
+/// refused as `PatternRefused` only where `make` refused a pattern in this reading and counted that. The rules ask caches and
 /// areas of the configuration alone, by their places in it.
 pub fn read_conf<M: Patterns>(alloc: Global, text: &[u8], make: &mut M) -> Result<Conf, ConfError>
     requires { length text.now < 2 ^ 32 }

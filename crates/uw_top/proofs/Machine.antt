@@ -92,37 +92,39 @@ below left middle now taken between taken_now ended f0 f1 f2 s0 s1 s2 count rest
 -- why a turn was the last is why the run ended
 ends_later : (led : List Asking → ℕ → Type 0) (site : Site) (left middle now taken between taken_now : Option (List ℕ)) (ended : Bool) (f0 f1 f2 s0 s1 s2 count : ℕ)
     (rest part late : List ℕ) (fault : Option RunFault)
-    → f0 ≤ f1 → s0 ≤ s1 → count < most_packets
+    → f0 ≤ f1 → s0 ≤ s1 → length late ≡ 1 → count < most_packets
     → EndsBy led site (ending_behind middle now between taken_now ended f1 f2 s1 s2 0 rest part late) fault
     → EndsBy led site (ending_behind left now taken taken_now ended f0 f2 s0 s2 count rest part late) fault
-ends_later led site left middle now taken between taken_now ended f0 f1 f2 s0 s1 s2 count rest part late None lf ls few e =
+ends_later led site left middle now taken between taken_now ended f0 f1 f2 s0 s1 s2 count rest part late None lf ls one few e =
     (e.0, e.1, elim e.2 [ inl b ↦ inl (few, b.1, b.2) | inr a ↦ absurd (omega (arith, a.0)) ], e.3)
-ends_later led site left middle now taken between taken_now ended f0 f1 f2 s0 s1 s2 count rest part late (Some faults.ReadFault) lf ls few e =
+ends_later led site left middle now taken between taken_now ended f0 f1 f2 s0 s1 s2 count rest part late (Some faults.ReadFault) lf ls one few e =
     (rose_since f0 f1 f2 lf e.0, elim e.1 [ inl b ↦ inl ((few, b.0.1, b.0.2), b.1) | inr a ↦ absurd (omega (arith, a.0.0)) ], e.2)
-ends_later led site left middle now taken between taken_now ended f0 f1 f2 s0 s1 s2 count rest part late (Some faults.WriteFault) lf ls few e =
+ends_later led site left middle now taken between taken_now ended f0 f1 f2 s0 s1 s2 count rest part late (Some faults.WriteFault) lf ls one few e =
     let cut = e.2 in
     (rose_since s0 s1 s2 ls e.0, few, record { turn = cut.turn; is = cut.is; asks = cut.asks; allows = cut.allows; moment = cut.moment; read = cut.read; written = cut.written })
-ends_later led site left middle now taken between taken_now ended f0 f1 f2 s0 s1 s2 count rest part late (Some (faults.Truncated got want)) lf ls few e =
+ends_later led site left middle now taken between taken_now ended f0 f1 f2 s0 s1 s2 count rest part late (Some (faults.Truncated got want)) lf ls one few e =
     (e.0, e.1, (few, e.2.1, e.2.2), e.3)
-ends_later led site left middle now taken between taken_now ended f0 f1 f2 s0 s1 s2 count rest part late (Some (faults.BadPacket packet)) lf ls few e =
+ends_later led site left middle now taken between taken_now ended f0 f1 f2 s0 s1 s2 count rest part late (Some (faults.BadPacket packet)) lf ls one few e =
     (e.0, (few, e.1.1, e.1.2), e.2)
-ends_later led site left middle now taken between taken_now ended f0 f1 f2 s0 s1 s2 count rest part late (Some faults.Memory) lf ls few e = (
-  elim e.0 [
-    | inl before ↦ inl before
-    | inr behind ↦ inr (record {
-      packet = behind.packet;
-      is = behind.is;
-      moment = behind.moment;
-      read = behind.read;
-      asked = behind.asked;
-      stops = behind.stops;
-    })
-  ],
-  e.1,
-  e.2,
-)
-ends_later led site left middle now taken between taken_now ended f0 f1 f2 s0 s1 s2 count rest part late (Some faults.TooMany) lf ls few e = absurd (omega (arith, e.1.0))
-ends_later led site left middle now taken between taken_now ended f0 f1 f2 s0 s1 s2 count rest part late (Some _) lf ls few e = absurd e
+ends_later led site left middle now taken between taken_now ended f0 f1 f2 s0 s1 s2 count rest part late (Some faults.Memory) lf ls one few e = elim e [
+  | inl unbegun ↦ absurd (omega (arith, one, ap length unbegun.3))
+  | inr below ↦ inr (
+    (few, below.0.1, below.0.2),
+    elim below.1 [
+      | inl before ↦ inl before
+      | inr behind ↦ inr (record {
+        packet = behind.packet;
+        is = behind.is;
+        moment = behind.moment;
+        read = behind.read;
+        asked = behind.asked;
+        stops = behind.stops;
+      })
+    ],
+  )
+]
+ends_later led site left middle now taken between taken_now ended f0 f1 f2 s0 s1 s2 count rest part late (Some faults.TooMany) lf ls one few e = absurd (omega (arith, e.1.0))
+ends_later led site left middle now taken between taken_now ended f0 f1 f2 s0 s1 s2 count rest part late (Some _) lf ls one few e = absurd e
 
 -- the turns so far, and one that was the last
 pub run_ends : {S Clk : Type 0} (gave : Clk → Clk → List ℕ → Type 0)
@@ -155,7 +157,7 @@ run_ends gave gave_more leads start held after site told told_now left middle no
       briefs = stopped.0 ∙ s.briefs;
       reads = HasCause-then f0 f1 f2 (has_failed_to_read fault) lf reads;
       writes = HasCause-then s0 s1 s2 (has_failed_to_write fault) ls writes;
-      ending = ends_later (leads held after) site left middle now taken between taken_now ended f0 f1 f2 s0 s1 s2 (length s.turns) t.rest t.part (t.moment ∷ []) fault (omega (arith, lf)) (omega (arith, ls)) few' t.ending;
+      ending = ends_later (leads held after) site left middle now taken between taken_now ended f0 f1 f2 s0 s1 s2 (length s.turns) t.rest t.part (t.moment ∷ []) fault (omega (arith, lf)) (omega (arith, ls)) refl few' t.ending;
     }
 
 -- all packets of a run were served, and this much was read behind them
@@ -230,5 +232,5 @@ nothing_done gave gave_none leads start site left taken clock ended f0 s0 none =
   briefs = refl;
   reads = HasCause-none f0 f0 refl;
   writes = HasCause-none s0 s0 refl;
-  ending = (inl (inl refl, (none, refl)), refl, omega arith);
+  ending = inl (refl, refl, refl, refl, (none, refl));
 }

@@ -39,7 +39,7 @@ pub no_memory : (led : List Asking → ℕ → Type 0) (site : Site) (left taken
     → IsLast led site (record { before = left; now = left; ended = ended; faults_before = f0; faults_now = f1 })
     (record { before = taken; now = taken; faults_before = k0; faults_now = k1 }) gave (Some faults.Memory)
 no_memory led site left taken ended f0 f1 k0 k1 moment gave told none =
-    stopped led site _ _ moment gave [] (Some faults.Memory) told (Takes-none left) (Gives-none taken) (inl (inl refl, (none, refl)), refl, omega arith)
+    stopped led site _ _ moment gave [] (Some faults.Memory) told (Takes-none left) (Gives-none taken) (inr ((lit< tt, refl, refl), inl (inl refl, (none, refl))))
 
 -- a request that was not served ended the run
 pub not_served : (led : List Asking → ℕ → Type 0) (site : Site) (src : Inflow) (snk : Outflow) (moment : ℕ) (gave : List ℕ → Type 0) (fault : ServeFault)
@@ -93,12 +93,12 @@ not_served led site src snk moment gave (serves.WriteFault done) told s = record
 }
 not_served led site src snk moment gave (serves.Memory done) told s =
     elim s.1 [
-      | inl before ↦ stopped led site src snk moment gave before.2.0 (Some faults.Memory) told before.2.1 s.0 (inl (before.2.2, before.1), refl, omega arith)
+      | inl before ↦ stopped led site src snk moment gave before.2.0 (Some faults.Memory) told before.2.1 s.0 (inr ((lit< tt, refl, refl), inl (before.2.2, before.1)))
       | inr behind ↦ let x = behind.0 in
           let stops : Stops led unbounded unbounded x.moment (course_of_site site x) done chains.Memory =
           subst (λ (m : ℕ). Stops led unbounded unbounded m (course_of_site site x) done chains.Memory) (sym behind.1.0) behind.2 in
           stopped led site src snk moment gave _ (Some faults.Memory) told behind.1.2 s.0
-          (inr (record { packet = x; is = behind.1.1; moment = ap (λ (m : ℕ). m ∷ []) (sym behind.1.0); read = refl; asked = done; stops = stops }), refl, omega arith)
+          (inr ((lit< tt, refl, refl), inr (record { packet = x; is = behind.1.1; moment = ap (λ (m : ℕ). m ∷ []) (sym behind.1.0); read = refl; asked = done; stops = stops })))
     ]
 
 -- a request that was served

@@ -128,6 +128,6 @@ pub record LoadRun (conf : Options) (first count : ℕ) (snk : Outflow) (gave : 
   pub few : length moments ≤ count
   pub told : gave (moments ++ late)
   pub written : Gives snk.before snk.now part
-  -- the first failed write is the end
+  -- a failed write is told
   pub writes : HasCause snk.faults_before snk.faults_now (has_failed_to_write fault)
   pub ending : LoadEndsBy conf (record { first = first; count = count; snk = snk; moments = moments; late = late; part = part }) fault

@@ -164,6 +164,10 @@ IsAtMost e = (e.count ≡ most_packets) × (e.late ≡ []) × (e.part ≡ [])
 abbrev pub HasAskedNothing : (List Asking → ℕ → Type 0) → Ending → Type 0
 HasAskedNothing led e = AsksNothing led e.allowed e.still
 
+-- nothing was read, written or asked, and the clock was not asked either
+abbrev pub IsUnbegun : (List Asking → ℕ → Type 0) → Ending → Type 0
+IsUnbegun led e = (e.count ≡ 0) × (e.rest ≡ []) × (e.part ≡ []) × (e.late ≡ []) × HasAskedNothing led e
+
 -- a packet was served in its turn, and only a part of its frame could be written; its asks led on from the last state of the desk
 pub record IsCutTurn (led : List Asking → ℕ → Type 0) (site : Site) (e : Ending) : Type 0 where
   pub turn : Turn
@@ -192,7 +196,7 @@ EndsBy led site e (Some faults.WriteFault) = Rose e.snk.faults_before e.snk.faul
 EndsBy led site e (Some (faults.Truncated got want)) = IsTruncated site.options e.rest got want × IsOver e.src × IsBelowMost e × HasAskedNothing led e
 EndsBy led site e (Some (faults.BadPacket packet)) =
     ((refusal : Refusal) × (packet ≡ bad_packet_of refusal) × IsRefused site.options e.rest refusal) × IsBelowMost e × HasAskedNothing led e
-EndsBy led site e (Some faults.Memory) = ((IsSwallowed site.options e.rest × HasAskedNothing led e) ⊎ IsStopped led site e) × (e.part ≡ []) × (length e.late ≤ 1)
+EndsBy led site e (Some faults.Memory) = IsUnbegun led e ⊎ (IsBelowMost e × ((IsSwallowed site.options e.rest × HasAskedNothing led e) ⊎ IsStopped led site e))
 EndsBy led site e (Some faults.TooMany) = (length e.rest ≡ 1) × IsAtMost e × HasAskedNothing led e
 EndsBy led site e (Some _) = ⊥
 
@@ -225,7 +229,7 @@ pub record PipeRun {S : Type 0} (leads : S → S → List Asking → ℕ → Typ
   pub written : Gives snk.before snk.now (frames_of turns ++ part)
   pub moments : gave (moments_of turns ++ late)
   pub briefs : told ≡ map brief_of turns
-  -- the first failed read or write is the end
+  -- a failed read or write is told: no run that had one ends otherwise
   pub reads : HasCause src.faults_before src.faults_now (has_failed_to_read fault)
   pub writes : HasCause snk.faults_before snk.faults_now (has_failed_to_write fault)
   pub ending : EndsBy (leads behind last) site (record { src = src; snk = snk; allowed = left; still = still; count = length turns; rest = rest; part = part; late = late }) fault

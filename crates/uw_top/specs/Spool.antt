@@ -111,6 +111,6 @@ pub record SpoolRun {S : Type 0} (leads : S → S → List Asking → ℕ → Ty
   pub told : gave (now ∷ [])
   pub passed : RoundsLead leads site now 0 start kept reports behind still
   pub written : Gives snk.before snk.now (rounds_text 0 reports ++ part)
-  -- the first failed write is the end
+  -- a failed write is told
   pub writes : HasCause snk.faults_before snk.faults_now (has_failed_to_write fault)
   pub ending : SpoolEndsBy leads site now (length reports) behind still last left snk part fault
