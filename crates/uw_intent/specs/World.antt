@@ -76,7 +76,7 @@ module _ {C A : Type 0} where
   HeldBy who dead so = ⊥
   HeldBy who (held made phase) so = (made.who ≡ who) × so made phase
 
-  -- whether an event may happen under a lock: a take where nobody holds it; of the holder a write while one is left, a leave where its call has none left, a death
+  -- whether an event may happen under a lock: a take where nobody holds it; of the holder a write while one is left, a leave when none is, a death
   abbrev pub IsAllowed : Lock C A → Event C → Type 0
   IsAllowed lock (taking made) = IsUnheld lock
   IsAllowed lock (writing who) = HeldBy who lock (λ made phase. writes_left phase ≢ [])
