@@ -14,13 +14,13 @@ use Rattle.uw_intent.proofs.Progress.{length-made}
 use Rattle.uw_intent.proofs.Rights.{agreeing_stand, right_stand, right_agree, right_gate}
 use Rattle.uw_intent.proofs.RightCommits.{commit_right}
 use Rattle.machine_tests.specs.declared.pair.TheConstants.{FRAME}
-use Rattle.machine_tests.specs.Pairs.{ArePair, bumped, pairs}
+use Rattle.machine_tests.specs.Pairs.{ArePair, bumped, pair_kind}
 
 -- the places of a pair are none of the record's
 beyond : (at : ℕ) → 18 ≤ at → IsBeyond FRAME at
 beyond at behind = record { outside = inr behind; gate = λ same. omega arith; used = λ same. omega arith }
 
-pub pairs_local : IsLocal pairs
+pub pairs_local : IsLocal pair_kind
 pairs_local = record {
   frame = λ words number pair. record { gate = refl; used = refl; start = omega arith; within = omega (arith, pair.many) };
   gate = λ words number pair. pair.closed;
@@ -66,10 +66,10 @@ both_put words old number pair =
     }
 
 -- the writes of a bump are right
-bump_right : (words : List ℕ) (old : ℕ) → ArePair words old → IsRight pairs words old 0 tt (bumped old) (commit_writes FRAME (both (bumped old)))
+bump_right : (words : List ℕ) (old : ℕ) → ArePair words old → IsRight pair_kind words old 0 tt (bumped old) (commit_writes FRAME (both (bumped old)))
 bump_right words old pair =
     let number = bumped old in
-    commit_right pairs pairs_local words old 0 tt (both number) pair (both_fit words number pair.many) (both_distinct number)
+    commit_right pair_kind pairs_local words old 0 tt (both number) pair (both_fit words number pair.many) (both_distinct number)
     (both_put words old number pair) (omega arith)
 
 -- a bump of a pair, whose plan is made
@@ -81,40 +81,41 @@ module _ (words now : List ℕ) (told left : Option (List ℕ)) (writes : List (
   same_answer : answer ≡ bumped old
   same_answer = is ∙ ap bumped pair.left
 
-  right_writes : IsRight pairs words old 0 tt (bumped old) todo
+  right_writes : IsRight pair_kind words old 0 tt (bumped old) todo
   right_writes =
       let same : writes ≡ both (bumped old) = planned ∙ ap both same_answer in
-      subst (λ (l : List (ℕ × ℕ)). IsRight pairs words old 0 tt (bumped old) (commit_writes FRAME l)) (sym same) (bump_right words old pair)
+      subst (λ (l : List (ℕ × ℕ)). IsRight pair_kind words old 0 tt (bumped old) (commit_writes FRAME l)) (sym same) (bump_right words old pair)
 
   -- all writes were made
-  pub bump_made : AllMade todo words now told left → CallMade pairs old words now told left 0 tt todo (given answer)
-  bump_made all = (subst (λ (n : ℕ). IsRight pairs words old 0 tt n todo) (sym same_answer) right_writes, all)
+  pub bump_made : AllMade todo words now told left → CallMade pair_kind old words now told left 0 tt todo (given answer)
+  bump_made all = (subst (λ (n : ℕ). IsRight pair_kind words old 0 tt n todo) (sym same_answer) right_writes, all)
 
-  pub bump_stands : AllMade todo words now told left → StandsFor pairs now (bumped old)
+  pub bump_stands : AllMade todo words now told left → StandsFor pair_kind now (bumped old)
   bump_stands all =
-      let agrees = right_agree pairs pairs_local words old 0 tt (bumped old) todo pair right_writes in
-      subst (λ (l : List ℕ). StandsFor pairs l (bumped old)) (sym all.words) (agreeing_stand pairs pairs_local (words_after todo words) (bumped old) agrees)
+      let agrees = right_agree pair_kind pairs_local words old 0 tt (bumped old) todo pair right_writes in
+      subst (λ (l : List ℕ). StandsFor pair_kind l (bumped old)) (sym all.words)
+      (agreeing_stand pair_kind pairs_local (words_after todo words) (bumped old) agrees)
 
   -- some writes were made
   module _ (some : SomeMade todo words now told left) (whole : Bool) (gate : whole ≡ not (eqb (region now 10) 0)) where
     whole_is : whole ≡ has_opened FRAME (take some.count todo)
     whole_is =
         gate ∙ ap (λ (l : List ℕ). not (eqb (region l 10) 0)) some.words
-        ∙ ap (λ (n : ℕ). not (eqb n 0)) (right_gate pairs pairs_local words old 0 tt (bumped old) todo pair right_writes some.count some.fewer)
+        ∙ ap (λ (n : ℕ). not (eqb n 0)) (right_gate pair_kind pairs_local words old 0 tt (bumped old) todo pair right_writes some.count some.fewer)
         ∙ tells (has_opened FRAME (take some.count todo))
       where
         tells : (b : Bool) → not (eqb (cond b 1 0) 0) ≡ b
         tells true = refl
         tells false = refl
 
-    pub bump_broken : CallMade pairs old words now told left 0 tt todo (died whole)
+    pub bump_broken : CallMade pair_kind old words now told left 0 tt todo (died whole)
     bump_broken = (bumped old, right_writes, some, whole_is)
 
-    pub broken_stands : StandsFor pairs now (cond whole (bumped old) old)
+    pub broken_stands : StandsFor pair_kind now (cond whole (bumped old) old)
     broken_stands =
-        subst (λ (b : Bool). StandsFor pairs now (cond b (bumped old) old)) (sym whole_is)
-        (subst (λ (l : List ℕ). StandsFor pairs l (cond (has_opened FRAME (take some.count todo)) (bumped old) old)) (sym some.words)
-        (right_stand pairs pairs_local words old 0 tt (bumped old) todo pair right_writes some.count))
+        subst (λ (b : Bool). StandsFor pair_kind now (cond b (bumped old) old)) (sym whole_is)
+        (subst (λ (l : List ℕ). StandsFor pair_kind l (cond (has_opened FRAME (take some.count todo)) (bumped old) old)) (sym some.words)
+        (right_stand pair_kind pairs_local words old 0 tt (bumped old) todo pair right_writes some.count))
 
 -- writes leave room for the record
 pub made_frame : (words now : List ℕ) (writes : List WordWrite) (told left : Option (List ℕ)) (number : ℕ) → ArePair words number
@@ -125,6 +126,6 @@ made_frame words now writes told left number pair some =
     record { gate = refl; used = refl; start = omega arith; within = omega (arith, len, pair.many) }
 
 -- words that stand for a number have room for the record
-pub standing_frame : (words : List ℕ) (number : ℕ) → StandsFor pairs words number → IsFrame FRAME (length words)
+pub standing_frame : (words : List ℕ) (number : ℕ) → StandsFor pair_kind words number → IsFrame FRAME (length words)
 standing_frame words number stands =
     record { gate = refl; used = refl; start = omega arith; within = omega (arith, stands.agrees.many, length-made (repairs FRAME words) words) }

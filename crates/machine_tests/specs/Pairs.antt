@@ -18,8 +18,8 @@ abbrev pub bumped : ℕ → ℕ
 bumped number = (number + 1) % 2 ^ 64
 
 -- the kind of region: its state is the number, a call of it makes it one more and answers that, by two planned words at most
-abbrev pub pairs : Kind ℕ (Unit {0}) ℕ
-pairs = record {
+abbrev pub pair_kind : Kind ℕ (Unit {0}) ℕ
+pair_kind = record {
   frame = FRAME;
   agrees = ArePair;
   answer = λ number moment call. bumped number;
@@ -28,9 +28,9 @@ pairs = record {
 }
 
 -- how a bump ended
-abbrev pub end_of : Result ℕ Broken → CallEnd ℕ
-end_of (Ok number) = given number
-end_of (Err broken) = died broken.whole
+abbrev pub bump_end : Result ℕ Broken → CallEnd ℕ
+bump_end (Ok number) = given number
+bump_end (Err broken) = died broken.whole
 
 -- the number for which the words stand after a bump
 abbrev pub number_after : ℕ → Result ℕ Broken → ℕ
@@ -40,4 +40,4 @@ number_after number (Err broken) = if broken.whole then bumped number else numbe
 -- the words stand for some number
 pub record IsStanding (words : List ℕ) : Type 0 where
   pub number : ℕ
-  pub stands : StandsFor pairs words number
+  pub stands : StandsFor pair_kind words number

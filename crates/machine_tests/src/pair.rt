@@ -4,7 +4,7 @@ ghost use Rattle.uw_words.specs.Plans.{region};
 ghost use Rattle.uw_intent.specs.RedoRecord.{IsIntact, commit_writes};
 ghost use Rattle.uw_intent.specs.Standing.{StandsFor};
 ghost use Rattle.uw_intent.specs.CallTurns.{CallMade};
-ghost use Rattle.machine_tests.specs.Pairs.{ArePair, bumped, pairs, end_of, number_after, IsStanding};
+ghost use Rattle.machine_tests.specs.Pairs.{ArePair, bumped, pair_kind, bump_end, number_after, IsStanding};
 
 use uw_intent::{Frame, commit, is_pending, recover};
 use uw_outside::{Died, Life};
@@ -48,9 +48,9 @@ pub fn bump<L: Life>(ram: &mut Ram, plan: &mut Overlay, life: &mut L) -> Result<
     requires pair { (number : ℕ) × ArePair ram.old number }
     requires room { plan.old.room ≡ 2 }
     requires alive { L.alive life.old ≡ true }
-    ensures made { (number : ℕ) → ArePair ram.old number → CallMade pairs number ram.old ram.new
-        (L.allowances life.old) (L.allowances life.new) 0 tt (commit_writes FRAME plan.new.writes) (end_of result) }
-    ensures stands { (number : ℕ) → ArePair ram.old number → StandsFor pairs ram.new (number_after number result) }
+    ensures made { (number : ℕ) → ArePair ram.old number → CallMade pair_kind number ram.old ram.new
+        (L.allowances life.old) (L.allowances life.new) 0 tt (commit_writes FRAME plan.new.writes) (bump_end result) }
+    ensures stands { (number : ℕ) → ArePair ram.old number → StandsFor pair_kind ram.new (number_after number result) }
     ensures standing { IsStanding ram.new }
     ensures room { plan.new.room ≡ 2 }
     ensures alive { L.alive life.new ≡ is_ok result }
@@ -68,9 +68,9 @@ pub fn bump<L: Life>(ram: &mut Ram, plan: &mut Overlay, life: &mut L) -> Result<
 pub fn mend<L: Life>(ram: &mut Ram, life: &mut L) -> Result<(), Died>
     requires standing { IsStanding ram.old }
     requires alive { L.alive life.old ≡ true }
-    ensures stands { (number : ℕ) → StandsFor pairs ram.old number → StandsFor pairs ram.new number }
+    ensures stands { (number : ℕ) → StandsFor pair_kind ram.old number → StandsFor pair_kind ram.new number }
     ensures standing { IsStanding ram.new }
-    ensures settled { OnOk result ((number : ℕ) → StandsFor pairs ram.old number → ArePair ram.new number) }
+    ensures settled { OnOk result ((number : ℕ) → StandsFor pair_kind ram.old number → ArePair ram.new number) }
     ensures alive { L.alive life.new ≡ is_ok result }
 {
     recover(ram, &FRAME, life)

@@ -11,3 +11,4 @@ pub mod RightCommits
 pub mod Worlds
 pub mod Histories
 pub mod Turns
+pub mod Allowed

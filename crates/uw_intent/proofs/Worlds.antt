@@ -123,6 +123,13 @@ module _ {S C A : Type 0} (k : Kind S C A) (start : S) where
         repair_begins w made now (agreeing_stand k is w.words (state_of k start w.history) holds) same
     takes_holds w dead made now holds unheld (inr (pending, same)) = repair_begins w made now holds same
 
+    -- after the last write of a repair the words agree
+    pub last_repair : (s : S) (now : List ℕ) (write : WordWrite) → IsRepaired k s now (write ∷ []) → k.agrees (set now write.at write.word) s
+    last_repair s now write repair =
+        let all : set now write.at write.word ≡ applied k.frame repair.before =
+        one_done repair.done write repair.before now repair.words ∙ ap (λ (l : List WordWrite). words_after l repair.before) (sym repair.is) in
+        subst (λ (l : List ℕ). k.agrees l s) (sym all) repair.stood.agrees
+
     -- the history of a call under way after one more write
     joins_more : (joined opening : Bool) (past : List (Called C)) (made : Called C)
         → with_call (not joined && opening) (with_call joined past made) made ≡ with_call (joined || opening) past made
@@ -134,10 +141,7 @@ module _ {S C A : Type 0} (k : Kind S C A) (start : S) where
         → Holds now now.lock
     writes_holds w made (repairing []) now repair writes = absurd writes
     writes_holds w made (repairing (write ∷ [])) now repair begins =
-        let s = state_of k start w.history in
-        let all : set w.words write.at write.word ≡ applied k.frame repair.before =
-        one_done repair.done write repair.before w.words repair.words ∙ ap (λ (l : List WordWrite). words_after l repair.before) (sym repair.is) in
-        begins_holds (with_write w write) made now (subst (λ (l : List ℕ). k.agrees l s) (sym all) repair.stood.agrees) begins
+        begins_holds (with_write w write) made now (last_repair (state_of k start w.history) w.words write repair) begins
     writes_holds w made (repairing (write ∷ later ∷ todo)) now repair same = subst (λ (v : World C A). Holds v v.lock) (sym same) (
         let more : IsRepaired k (state_of k start w.history) (set w.words write.at write.word) (later ∷ todo) =
         record {

@@ -76,6 +76,13 @@ module _ {C A : Type 0} where
   HeldBy who dead so = ⊥
   HeldBy who (held made phase) so = (made.who ≡ who) × so made phase
 
+  -- whether an event may happen under a lock: a take where nobody holds it; of the holder a write while one is left, a leave when none is, a death
+  abbrev pub IsAllowed : Lock C A → Event C → Type 0
+  IsAllowed lock (taking made) = IsUnheld lock
+  IsAllowed lock (writing who) = HeldBy who lock (λ made phase. writes_left phase ≢ [])
+  IsAllowed lock (leaving who) = HeldBy who lock (λ made phase. (answer : A) × (joined : Bool) × (phase ≡ calling answer [] joined))
+  IsAllowed lock (dying who) = HeldBy who lock (λ made phase. Unit {0})
+
   -- a world after one word write
   abbrev pub with_write : World C A → WordWrite → World C A
   with_write w write = record w { words = slice_set w.words write.at write.word }
@@ -143,6 +150,11 @@ module _ {S C A : Type 0} (k : Kind S C A) (start : S) where
     pub words : w.words ≡ words_after done before
     pub history : w.history ≡ with_call joined past made
     pub joins : joined ≡ has_opened k.frame done
+
+-- each call on words that agree with a state has an answer and writes that are right
+abbrev pub HasRightWrites : {S C A : Type 0} → Kind S C A → Type 0
+HasRightWrites {S = S} {C = C} {A = A} k =
+    (words : List ℕ) (s : S) (moment : ℕ) (call : C) → k.agrees words s → (answer : A) × (todo : List WordWrite) × IsRight k words s moment call answer todo
 
 -- a call of a history, and its answer where it was given one
 pub record Ended (C A : Type 0) : Type 0 where

@@ -7,7 +7,8 @@ ghost use Rattle.uw_intent.specs.Stores.{words_after, AllMade, SomeMade};
 ghost use Rattle.uw_intent.specs.RedoRecord.{IsFrame, FitsRecord, IsBeyond, IsIntact, StandsAs, commit_writes, copies, repairs, applied};
 ghost use Rattle.uw_intent.specs.Standing.{IsLocal, StandsFor};
 ghost use Rattle.uw_intent.specs.RightWrites.{IsRight, has_opened};
-ghost use Rattle.uw_intent.specs.World.{World, Called, Event, Step, Lock, dying, left_dead, repairing, calling, held, free, state_of, IsUnheld, Happens};
+ghost use Rattle.uw_intent.specs.World.{World, Called, Event, Step, Lock, dying, left_dead, repairing, calling, held, free, state_of, IsUnheld, IsAllowed};
+ghost use Rattle.uw_intent.specs.World.{HasRightWrites, Happens};
 ghost use Rattle.uw_intent.specs.World.{RunsTo, IsFresh, IsUnderWay, ended, takes_of, joined_of, AreAnswers};
 ghost use Rattle.uw_intent.specs.CallTurns.{CallEnd, died, CallMade, IsCallTurn};
 
@@ -186,4 +187,17 @@ pub fn calls_are_turns<K: RegionKind>()
 pub fn broken_repairs_are_turns<K: RegionKind>()
     ensures { (start : K.State) (w : World K.Call K.Answer) (made : Called K.Call) (now : List ℕ) (told left : Option (List ℕ)) → IsUnheld w.lock
         → SomeMade (repairs K.kind.frame w.words) w.words now told left → IsCallTurn K.kind start w made now told left (died false) }
+{}
+
+/// An event that happens is allowed by the lock.
+pub fn events_happen_where_allowed<K: RegionKind>()
+    ensures { (start : K.State) (w now : World K.Call K.Answer) (event : Event K.Call) (step : Step K.Answer) → Happens K.kind start w event step now
+        → IsAllowed w.lock event }
+{}
+
+/// After every list of events each event that the lock allows happens, where each call has writes that are right.
+pub fn allowed_events_happen<K: RegionKind>()
+    ensures { (start : K.State) (w now : World K.Call K.Answer) (events : List (Event K.Call)) (steps : List (Step K.Answer)) → IsLocal K.kind
+        → HasRightWrites K.kind → IsFresh K.kind start w → RunsTo K.kind start w events steps now → (event : Event K.Call) → IsAllowed now.lock event
+        → (step : Step K.Answer) × (after : World K.Call K.Answer) × Happens K.kind start now event step after }
 {}
