@@ -162,7 +162,7 @@ module _ {S C A : Type 0} (k : Kind S C A) (start : S) where
             after = after;
             runs = turn_goes_on n (length early) (holding before w.history (calling call.0 (early ++ late) false)) after began done.1;
             words = sym part.words;
-            ends = (phase, refl, more, call.3);
+            ends = (phase, refl, more, call.3, part.refused);
             spent = spends_then told mid left n (length early) repaired.spent (subst (Spends mid left) (sym m) part.spent);
           }
       call_turn before now told mid left todo no_memory repaired call = record {
@@ -170,7 +170,7 @@ module _ {S C A : Type 0} (k : Kind S C A) (start : S) where
         after = holding before w.history (calling call.0 todo false);
         runs = turn_begins before call.0 todo repaired.words call.1;
         words = sym call.2;
-        ends = (call.0, todo, refl);
+        ends = (call.0, todo, refl, refl);
         spent = subst (λ (l : Option (List ℕ)). Spends told l (length left_repairs)) (sym call.3) repaired.spent;
       }
 
@@ -195,6 +195,6 @@ module _ {S C A : Type 0} (k : Kind S C A) (start : S) where
             after = after;
             runs = (holding w.words w.history (repairing left_repairs), (unheld, refl, inr (pending, refl)), broken);
             words = sym part.words;
-            ends = (phase, refl, λ none. cc, refl);
+            ends = (phase, refl, λ none. cc, refl, part.refused);
             spent = subst (Spends told left) (sym m) part.spent;
           }
