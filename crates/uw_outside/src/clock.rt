@@ -1,6 +1,6 @@
 // A clock, and one in memory.
 ghost use Rattle.std.specs.Prelude.{◌≡◌, ◌<◌, ◌++◌, List, [], ◌∷◌, ℕ, vec_len, refl};
-ghost use Rattle.uw_outside.specs.Moments.{GivesInOrder, GivesInOrder-append};
+ghost use Rattle.uw_outside.specs.Moments.{GivesInOrder, GivesInOrder-append, GivesAlways, GivesAlways-none, GivesAlways-append};
 
 use std::marker::Model;
 
@@ -62,5 +62,42 @@ impl Clock for FixedClock {
             self.place += 1;
         }
         moment
+    }
+}
+
+/// A clock that always gives its one moment. Contracts see it as that moment.
+#[derive(Clone, Copy, Debug, PartialEq, Eq)]
+pub struct SteadyClock {
+    moment: u64,
+}
+
+impl Model for SteadyClock {
+    ghost use Rattle.std.specs.Prelude.{ℕ};
+
+    ghost Value = { ℕ };
+
+    ghost view = { λ c. c.moment };
+
+    ghost inverse = { λ moment. record { moment = moment } };
+}
+
+impl SteadyClock {
+    /// Takes no memory.
+    pub fn new(moment: u64) -> SteadyClock
+        ensures { result ≡ moment }
+    {
+        SteadyClock { moment }
+    }
+}
+
+impl Clock for SteadyClock {
+    ghost gave = { GivesAlways };
+
+    ghost gave_none = { GivesAlways-none };
+
+    ghost gave_more = { GivesAlways-append };
+
+    fn now(&mut self) -> u64 {
+        self.moment
     }
 }

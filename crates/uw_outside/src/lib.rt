@@ -10,7 +10,7 @@ pub mod real;
 pub mod sink;
 pub mod source;
 
-pub use clock::{Clock, FixedClock};
+pub use clock::{Clock, FixedClock, SteadyClock};
 pub use fuse::Fuse;
 pub use life::{Died, Immortal, Life};
 pub use real::{Reading, SystemClock, Writing};

@@ -1,23 +1,34 @@
 // Adapters over a reader, a writer and the clock of the system. They tell no content.
-ghost use Rattle.std.specs.Prelude.{◌≡◌, IfOk, None, false};
+ghost use Rattle.std.specs.Prelude.{◌≡◌, IfOk, None, true, false};
+ghost use Rattle.uw_outside.specs.Counts.{next_count};
+ghost use Rattle.uw_outside.specs.Faults.{HasCause};
+ghost use Rattle.uw_outside.specs.Streams.{is_failed};
 
 use crate::counts::count_fault;
 use crate::{Clock, Got, Put, Sink, Source};
-use std::alloc::Global;
-use std::io::{BufReader, Read, Write};
+use std::alloc::{AllocError, Global};
+use std::io::{BufRead, BufReader, Read, Write};
 use std::marker::Model;
 use std::rt;
 use std::time::{SystemTime, UNIX_EPOCH};
-use uw_base::Memory;
 
 // How many bytes are asked of a reader at once.
 const BUFFER_BYTES: usize = 65_536;
+
+// What a wait met: a byte, or what the next read answers in its place.
+#[derive(Clone, Copy)]
+enum Met {
+    Byte,
+    End,
+    Failure,
+}
 
 /// A source over any reader of std, which it reads through a buffer of 64 KiB. Once a read of it found no byte it
 /// reads no more, and answers the end. An interrupted read counts as a failed one, since std does not repeat it.
 #[derive(Drop)]
 pub struct Reading<R> {
     reader: BufReader<R>,
+    met: Met,
     ended: bool,
     faults: u64,
 }
@@ -32,17 +43,38 @@ impl<R> Model for Reading<R> {
 
 impl<R: Read + Drop> Reading<R> {
     /// The source over this reader, which is dropped where there is no memory for the buffer.
-    pub fn new(alloc: Global, reader: R) -> Result<Reading<R>, Memory>
+    pub fn new(alloc: Global, reader: R) -> Result<Reading<R>, AllocError>
         ensures { IfOk result (λ s. s ≡ record { ended = false; faults = 0 }) }
     {
         match BufReader::with_capacity(alloc, BUFFER_BYTES, reader) {
             Ok(reader) => Ok(Reading {
                 reader,
+                met: Met::Byte,
                 ended: false,
                 faults: 0,
             }),
-            Err(_) => Err(Memory),
+            Err(_) => Err(AllocError),
         }
+    }
+}
+
+impl<R> Reading<R> {
+    fn end(&mut self) -> Got
+        ensures answer { result ≡ Got.End }
+        ensures ended { self.new ≡ record self.old { ended = true } }
+    {
+        self.ended = true;
+        Got::End
+    }
+
+    fn fail(&mut self) -> Got
+        ensures answer { result ≡ Got.Failed }
+        ensures counted { self.new ≡ record self.old { faults = next_count self.old.faults } }
+        ensures cause { HasCause self.old.faults self.new.faults (is_failed result) }
+    {
+        count_fault(&mut self.faults);
+        self.met = Met::Byte;
+        Got::Failed
     }
 }
 
@@ -57,17 +89,27 @@ impl<R: Read> Source for Reading<R> {
         if self.ended {
             return Got::End;
         }
-        match self.reader.read(buf) {
-            Ok(0) => {
-                self.ended = true;
-                Got::End
-            }
-            Ok(count) => Got::Count(count),
-            Err(_) => {
-                count_fault(&mut self.faults);
-                Got::Failed
-            }
+        match self.met {
+            Met::End => self.end(),
+            Met::Failure => self.fail(),
+            Met::Byte => match self.reader.read(buf) {
+                Ok(0) => self.end(),
+                Ok(count) => Got::Count(count),
+                Err(_) => self.fail(),
+            },
         }
+    }
+
+    // What it met once stands until a read answers it: a terminal is asked for its end only once.
+    fn wait(&mut self) {
+        if self.ended || !matches!(self.met, Met::Byte) {
+            return;
+        }
+        self.met = match self.reader.fill_buf() {
+            Ok([]) => Met::End,
+            Ok(_) => Met::Byte,
+            Err(_) => Met::Failure,
+        };
     }
 }
 
@@ -114,7 +156,7 @@ impl<W: Write> Sink for Writing<W> {
 
 /// The clock of the system, in whole seconds since the epoch. Where it cannot be read or stands before the epoch it
 /// gives 0. It does not tell its moments.
-#[derive(Drop)]
+#[derive(Clone, Copy, Drop)]
 pub struct SystemClock<R> {
     rt: R,
 }

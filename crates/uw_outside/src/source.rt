@@ -36,6 +36,12 @@ pub trait Source {
         ensures bytes { Reads (left self.old) (left self.new) buf.new result }
         ensures ended { Ends (ended self.old) (ended self.new) result }
         ensures cause { HasCause (faults self.old) (faults self.new) (is_failed result) };
+
+    /// Waits until the source has a byte, has ended or has failed. It takes nothing: what it met, the next read answers.
+    fn wait(&mut self)
+        ensures left { left self.new ≡ left self.old }
+        ensures ended { ended self.new ≡ ended self.old }
+        ensures faults { faults self.new ≡ faults self.old };
 }
 
 /// How far a buffer was filled.
@@ -160,6 +166,14 @@ impl Source for BytesIn {
         self.given += count;
         Got::Count(count)
     }
+
+    // Its bytes, its end and its listed failures are there at once.
+    fn wait(&mut self)
+        ensures left { self.new.left ≡ self.old.left }
+        ensures ended { self.new.ended ≡ self.old.ended }
+        ensures faults { self.new.faults ≡ self.old.faults }
+        ensures same { self.new ≡ self.old }
+    {}
 }
 
 // Copies as many bytes as there are and fit to the front of `to`, and says how many.
