@@ -5,3 +5,5 @@ pub mod InMemory
 pub mod Adapters
 pub mod Moments
 pub mod Lives
+pub mod Links
+pub mod BoardSteps
