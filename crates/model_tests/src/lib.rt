@@ -1,4 +1,4 @@
-//! Tests of caches, areas and desks, by the calls of their plain forms.
+//! Tests of caches, areas and desks, by the calls of their plain forms, and of the words of their regions.
 #![tactic(auto)]
 
 #[cfg(test)]
@@ -7,3 +7,5 @@ mod areas;
 mod caches;
 #[cfg(test)]
 mod desks;
+#[cfg(test)]
+mod layout;

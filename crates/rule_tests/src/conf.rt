@@ -2,9 +2,8 @@
 use std::alloc::Global;
 use std::process::Abort;
 use std::test::Fail;
-use uw_base::{Bytes, Memory};
-use uw_conf::{Conf, ConfError, ConfFault, ConfKind, area_words, read_conf, region_words};
-use uw_model::CacheConf;
+use uw_base::Memory;
+use uw_conf::{Conf, ConfError, ConfFault, ConfKind, read_conf};
 use uw_rules::{RegexPatterns, RuleKind};
 
 // The refused line of a text, if there is one.
@@ -313,7 +312,6 @@ fn areas_and_tasks_say_what_they_say(rt: HostRuntime) -> Result<(), Fail> {
     )?;
     assert_eq!(rt; conf.areas.as_slice(), [8_192, 10].as_slice());
     assert_eq!(rt; (conf.routes.len(), conf.tasks.len()), (0, 1));
-    assert_eq!(rt; area_words(4_096), 2_088);
     Ok(())
 }
 
@@ -434,21 +432,4 @@ fn an_empty_text_says_the_defaults(rt: HostRuntime) -> Result<(), Fail> {
     assert_eq!(rt; conf.socket.len(), 0);
     assert_eq!(rt; conf.caches.len(), 0);
     Ok(())
-}
-
-#[test]
-fn a_region_has_its_words(rt: HostRuntime) {
-    let conf = CacheConf {
-        name: Bytes::new(rt.alloc()),
-        items: 20_000,
-        blocksize: 65_536,
-        blocks: 20_000,
-        keysize: 2_048,
-        chains: 20_000,
-        bitmap: false,
-        purge_lru: false,
-        sweep_on_full: false,
-        clear_on_full: false,
-    };
-    assert_eq!(rt; region_words(&conf), 170_126_756);
 }

@@ -1,5 +1,4 @@
 pub mod Lines
-pub mod Sizes
 pub mod Regions
 pub mod Caches
 pub mod AreaLines

@@ -7,11 +7,11 @@ ghost use Rattle.uw_conf.specs.Sound.{ArePartsOfSite};
 
 use crate::ConfKind;
 use crate::refusal::Refusal;
-use crate::sizes::{MOST_REGION_BYTES, area_bytes, area_words, region_bytes};
+use crate::sizes::{MOST_REGION_BYTES, area_bytes, region_bytes};
 use crate::values::number_in;
 use uw_base::NumberList;
 use uw_base::texts::{cut, is};
-use uw_model::CacheConf;
+use uw_model::{CacheConf, area_words};
 
 const MOST_AREAS: usize = 16;
 

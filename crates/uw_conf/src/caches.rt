@@ -13,11 +13,11 @@ ghost use Rattle.uw_conf.specs.ReadingSteps.{IsDraft};
 use crate::ConfKind;
 use crate::draft::{CacheDraft, draft_of};
 use crate::refusal::Refusal;
-use crate::sizes::{MOST_REGION_BYTES, area_bytes, region_bytes, region_words};
+use crate::sizes::{MOST_REGION_BYTES, area_bytes, region_bytes};
 use std::alloc::Global;
 use uw_base::texts::is;
 use uw_base::{Bytes, Memory};
-use uw_model::{CacheConf, CacheConfList};
+use uw_model::{CacheConf, CacheConfList, words_of};
 
 const MOST_CACHES: usize = 16;
 
@@ -78,7 +78,7 @@ fn add_cache_conf(
     if has_name(caches.as_slice(), conf.name.as_slice()) {
         return Err(Refusal::Refused(ConfKind::NameTwice));
     }
-    let own = region_bytes(caches.as_slice()) + 8 * region_words(&conf);
+    let own = region_bytes(caches.as_slice()) + 8 * words_of(&conf);
     let bytes = own + area_bytes(areas);
     if MOST_REGION_BYTES < bytes {
         return Err(Refusal::Refused(ConfKind::TooLarge {

@@ -3,8 +3,10 @@ ghost use Rattle.std.specs.Prelude.{◌≡◌, ℕ, ◌≤◌, ◌++◌, List, [
 ghost use Rattle.std.specs.List.{AllByRecursion};
 ghost use Rattle.std.specs.Str.Lines.{lines};
 ghost use Rattle.uw_model.specs.declared.conf.CacheConf.{CacheConf};
+ghost use Rattle.uw_model.specs.AreaLayout.{area_words};
 ghost use Rattle.uw_model.specs.AreaOps.{IsAreaSize};
 ghost use Rattle.uw_model.specs.Entries.{IsCacheConf};
+ghost use Rattle.uw_model.specs.Layout.{words_of};
 ghost use Rattle.uw_conf.specs.declared.conf.Options.{Options};
 ghost use Rattle.uw_conf.specs.Caches.{blank_draft, conf_of};
 ghost use Rattle.uw_conf.specs.declared.conf.ConfFault.{ConfFault};
@@ -14,7 +16,6 @@ ghost use Rattle.uw_conf.specs.Laws.{IsLeastRefusal, IsPlainLine, last_value, nu
 ghost use Rattle.uw_conf.specs.Reading.{blank_reading, reading_after};
 ghost use Rattle.uw_conf.specs.Regions.{all_bytes, most_region_bytes};
 ghost use Rattle.uw_conf.specs.Routes.{cache_names_of, site_names_of};
-ghost use Rattle.uw_conf.specs.Sizes.{area_words, region_words};
 ghost use Rattle.uw_conf.specs.Sound.{HasLimits, HaveOwnNames};
 
 /// A text that is not refused defines at most 16 caches, each with its numbers within their limits and with a name of its
@@ -40,7 +41,7 @@ pub fn numbers_are_within_their_limits()
 
 /// A cache of 20,000 items for which nothing else is said takes this many words.
 pub fn default_cache_has_its_words()
-    ensures { (name : List ℕ) → region_words (conf_of blank_draft name 20000) ≡ 170126756 }
+    ensures { (name : List ℕ) → words_of (conf_of blank_draft name 20000) ≡ 170126756 }
 {}
 
 /// An area of one page takes this many words.

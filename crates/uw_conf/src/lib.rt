@@ -16,4 +16,3 @@ mod values;
 
 pub use conf::{Conf, ConfError, ConfFault, ConfKind, Options};
 pub use deciding::read_conf;
-pub use sizes::{area_words, region_words};

@@ -1,4 +1,6 @@
 pub mod Entries
+pub mod Layout
+pub mod AreaLayout
 pub mod Placement
 pub mod Calls
 pub mod AreaLimits

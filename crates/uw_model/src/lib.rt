@@ -3,6 +3,7 @@
 #![tactic(auto)]
 
 pub mod area_laws;
+mod area_layout;
 pub mod areas;
 mod ask_list;
 pub mod asks;
@@ -13,6 +14,7 @@ pub mod desk;
 pub mod entries;
 mod keys;
 pub mod laws;
+mod layout;
 mod list_area;
 mod list_cache;
 mod list_desk;
@@ -21,6 +23,7 @@ mod placement;
 mod sizes;
 mod steps;
 
+pub use area_layout::{area_plan_room, area_words, byte_words};
 pub use areas::{AreaAnswer, AreaBytes, AreaOp, Width};
 pub use ask_list::AskList;
 pub use asks::{Ask, AskAnswer, Asked, SpoolAnswer};
@@ -29,6 +32,10 @@ pub use calls::{Answer, Call, MathOp};
 pub use conf::CacheConf;
 pub use desk::{Desk, DeskFault, make_ask};
 pub use entries::Entry;
+pub use layout::{
+    HEAD_WORDS, ITEM_HEAD, Layout, block_words, item_words, key_words, layout_of, plan_room,
+    words_of,
+};
 pub use list_area::ListArea;
 pub use list_cache::ListCache;
 pub use list_desk::ListDesk;

@@ -9,7 +9,7 @@ use crate::{CacheConf, Entry};
 const LONGEST_VALUE: u64 = 65_536;
 
 /// The most bytes of a value.
-fn max_value(conf: &CacheConf) -> u64
+pub fn max_value(conf: &CacheConf) -> u64
     requires { IsCacheConf conf.now }
     ensures { result ≡ max_value conf.now }
 {
