@@ -9,3 +9,5 @@ mod caches;
 mod desks;
 #[cfg(test)]
 mod layout;
+#[cfg(test)]
+mod reckoning;

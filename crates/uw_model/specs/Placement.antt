@@ -5,9 +5,13 @@ use Rattle.uw_model.specs.declared.conf.CacheConf.{CacheConf}
 use Rattle.uw_model.specs.declared.entries.Entry.{Entry}
 use Rattle.uw_model.specs.Entries.{span}
 
+-- what dies at a moment, 0 for never, is alive now: it never dies, or nothing expires, or now is before that moment
+abbrev pub is_alive_until : CacheConf → ℕ → ℕ → Bool
+is_alive_until conf now dies = dies == 0 || conf.purge_lru || nat_lt now dies
+
 -- an entry is alive at a moment: it never dies, or nothing expires, or the moment is before its last
 abbrev pub is_alive : CacheConf → ℕ → Entry → Bool
-is_alive conf now e = e.dies == 0 || conf.purge_lru || nat_lt now e.dies
+is_alive conf now e = is_alive_until conf now e.dies
 
 -- the entry covers none of the n blocks from the place on
 abbrev pub is_clear_of : CacheConf → ℕ → ℕ → Entry → Bool

@@ -1,5 +1,8 @@
 // The configuration of one cache.
-use uw_base::Bytes;
+ghost use Rattle.std.specs.Prelude.{◌≡◌, IfOk};
+
+use std::alloc::Global;
+use uw_base::{Bytes, Memory};
 
 /// The configuration of one cache: its name, its sizes and its policies.
 #[derive(Drop)]
@@ -23,4 +26,24 @@ pub struct CacheConf {
     pub sweep_on_full: bool,
     /// A full cache drops all entries.
     pub clear_on_full: bool,
+}
+
+impl CacheConf {
+    /// A copy of the configuration.
+    pub fn copy(&self, alloc: Global) -> Result<CacheConf, Memory>
+        ensures { IfOk result (λ c. c ≡ self.now) }
+    {
+        Ok(CacheConf {
+            name: Bytes::from_slice(alloc, self.name.as_slice())?,
+            items: self.items,
+            blocksize: self.blocksize,
+            blocks: self.blocks,
+            keysize: self.keysize,
+            chains: self.chains,
+            bitmap: self.bitmap,
+            purge_lru: self.purge_lru,
+            sweep_on_full: self.sweep_on_full,
+            clear_on_full: self.clear_on_full,
+        })
+    }
 }

@@ -39,3 +39,6 @@ pub use layout::{
 pub use list_area::ListArea;
 pub use list_cache::ListCache;
 pub use list_desk::ListDesk;
+pub use numbers::{dies_of_number, is_zero_division, result_of};
+pub use placement::is_alive_until;
+pub use sizes::{dies_at, is_bad_key, is_too_long, span_of};

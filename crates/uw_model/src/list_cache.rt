@@ -6,7 +6,7 @@ ghost use Rattle.uw_model.specs.Calls.{answer, next_state};
 use crate::{Answer, CacheConf, Call, Entry, steps};
 use std::alloc::Global;
 use std::marker::Model;
-use uw_base::{Bytes, Memory};
+use uw_base::Memory;
 
 /// A cache as a plain list of entries, the most recent first: the meaning of a cache as a program. Each call looks
 /// through the list. Contracts see the configuration and the list, which is a well-formed one at any time.
@@ -34,7 +34,7 @@ impl ListCache {
         ensures { IfOk result (λ c. c ≡ record { conf = conf.now; list = [] }) }
     {
         Ok(ListCache {
-            conf: copy_of(alloc, conf)?,
+            conf: conf.copy(alloc)?,
             entries: Vec::new(alloc),
         })
     }
@@ -49,22 +49,4 @@ impl ListCache {
     {
         steps::made(alloc, &self.conf, &mut self.entries, moment, call)
     }
-}
-
-/// A copy of a configuration.
-fn copy_of(alloc: Global, conf: &CacheConf) -> Result<CacheConf, Memory>
-    ensures { IfOk result (λ c. c ≡ conf.now) }
-{
-    Ok(CacheConf {
-        name: Bytes::from_slice(alloc, conf.name.as_slice())?,
-        items: conf.items,
-        blocksize: conf.blocksize,
-        blocks: conf.blocks,
-        keysize: conf.keysize,
-        chains: conf.chains,
-        bitmap: conf.bitmap,
-        purge_lru: conf.purge_lru,
-        sweep_on_full: conf.sweep_on_full,
-        clear_on_full: conf.clear_on_full,
-    })
 }

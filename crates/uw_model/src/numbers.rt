@@ -1,5 +1,6 @@
 // The numbers that values of eight bytes stand for, and what a number call makes of them.
-ghost use Rattle.std.specs.Prelude.{◌≡◌, false, Some, None, length, option_copied, if◌then◌else◌};
+ghost use Rattle.std.specs.Prelude.{◌≡◌, false, Option, Some, None, length, option_copied, option_map, if◌then◌else◌};
+ghost use Rattle.uw_model.specs.declared.entries.Entry.{Entry as EntryValue};
 ghost use Rattle.uw_model.specs.Calls.{number_of, is_no_number, number_at, result_of, is_zero_division, is_in_range, dies_of_number};
 
 use crate::sizes::dies_at;
@@ -57,12 +58,20 @@ pub fn result_of(op: MathOp, number: i64, by: i64) -> Option<i64>
     }
 }
 
-/// When a number that is written now dies: with no time to live, when the alive entry does.
-pub fn dies_of_number(moment: u64, ttl: u64, alive: Option<&Entry>) -> u64
-    ensures { result ≡ dies_of_number moment ttl (option_copied alive.entry) }
+/// When a number that is written now dies, in seconds and 0 for never. Where the key has an alive entry, the moment at
+/// which that one dies is given, and it stays where the time to live is 0.
+pub fn dies_of_number(moment: u64, ttl: u64, alive: Option<u64>) -> u64
+    ensures { (e : Option EntryValue) → option_map (λ e. e.dies) e ≡ alive → result ≡ dies_of_number moment ttl e }
 {
     match alive {
-        Some(entry) if ttl == 0 => entry.dies,
+        Some(dies) if ttl == 0 => dies,
         _ => dies_at(moment, ttl),
     }
+}
+
+/// When an alive entry dies, where there is one.
+pub fn dies_of(alive: Option<&Entry>) -> Option<u64>
+    ensures { option_map (λ e. e.dies) (option_copied alive.entry) ≡ result }
+{
+    alive.map(|entry| entry.dies)
 }

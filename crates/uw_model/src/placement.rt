@@ -1,17 +1,25 @@
 // Where a value goes, and what makes room for it.
 ghost use Rattle.std.specs.Prelude.{◌≡◌, ◌≤◌, ◌+◌, true, All, Some, MatchOption, IfSome, length, take, is_some, option_map, unwrap_or, vec_len, vec_capacity};
 ghost use Rattle.uw_model.specs.Entries.{IsCacheConf, IsEntry, span};
-ghost use Rattle.uw_model.specs.Placement.{is_alive, alive_of, is_free, first_run, fits, longest_front, room};
+ghost use Rattle.uw_model.specs.Placement.{is_alive, is_alive_until, alive_of, is_free, first_run, fits};
+ghost use Rattle.uw_model.specs.Placement.{longest_front, room};
 ghost use Rattle.uw_model.specs.PlacementSteps.{counts, counted, is_in_the_way, IsBlockedUntil};
 
 use crate::sizes::end_of;
 use crate::{CacheConf, Entry};
 
+/// Whether what dies at a moment, in seconds and 0 for never, is alive at another moment.
+pub fn is_alive_until(conf: &CacheConf, moment: u64, dies: u64) -> bool
+    ensures { result ≡ is_alive_until conf.now moment dies }
+{
+    dies == 0 || conf.purge_lru || moment < dies
+}
+
 /// Whether an entry is alive at a moment.
 pub fn is_alive(conf: &CacheConf, moment: u64, entry: &Entry) -> bool
     ensures { result ≡ is_alive conf.now moment entry.now }
 {
-    entry.dies == 0 || conf.purge_lru || moment < entry.dies
+    is_alive_until(conf, moment, entry.dies)
 }
 
 /// Whether an entry counts: each does, or where a moment is given those that are alive at it.

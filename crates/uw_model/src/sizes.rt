@@ -1,6 +1,6 @@
 // How much a key and a value may take, and the blocks and the moment that come of it.
 ghost use Rattle.std.specs.Prelude.{◌≡◌, ◌≤◌, ◌+◌};
-ghost use Rattle.uw_model.specs.Entries.{IsCacheConf, IsEntry, max_value, span};
+ghost use Rattle.uw_model.specs.Entries.{IsCacheConf, IsEntry, max_value, span, span_of};
 ghost use Rattle.uw_model.specs.Calls.{dies_at, is_bad_key, is_too_long};
 
 use crate::{CacheConf, Entry};
@@ -21,13 +21,20 @@ pub fn max_value(conf: &CacheConf) -> u64
     room.min(LONGEST_VALUE)
 }
 
+/// How many blocks a value of so many bytes takes, at least one.
+pub fn span_of(conf: &CacheConf, len: u64) -> u64
+    requires { IsCacheConf conf.now }
+    ensures { result ≡ span_of conf.now len }
+{
+    len.div_ceil(conf.blocksize).max(1)
+}
+
 /// How many blocks a value takes.
 pub fn span(conf: &CacheConf, value: &[u8]) -> u64
     requires { IsCacheConf conf.now }
     ensures { result ≡ span conf.now value.now }
 {
-    let len = value.len() as u64;
-    ((len + (conf.blocksize - 1)) / conf.blocksize).max(1)
+    span_of(conf, value.len() as u64)
 }
 
 /// The number of the block behind the last one of an entry.

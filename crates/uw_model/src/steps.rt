@@ -7,7 +7,7 @@ ghost use Rattle.uw_model.specs.Calls.{answer, next_state, written, alive_at, go
 ghost use Rattle.uw_model.specs.KeySteps.{HaveOwnKeys, IsAlivePlace};
 
 use crate::keys::{move_to_front, place_of, put_back, put_in_front, take_out};
-use crate::numbers::{Reckoning, dies_of_number, is_zero_division, number_at, result_of};
+use crate::numbers::{Reckoning, dies_of, dies_of_number, is_zero_division, number_at, result_of};
 use crate::placement::{is_alive, keep_alive, make_room};
 use crate::sizes::{dies_at, is_bad_key, is_too_long, span};
 use crate::{Answer, CacheConf, Call, Entry};
@@ -270,7 +270,7 @@ pub fn math(
     if is_zero_division(op, by) {
         return Ok(Answer::ZeroDivisor);
     }
-    let dies = dies_of_number(moment, ttl, alive);
+    let dies = dies_of_number(moment, ttl, dies_of(alive));
     let Some(number) = result_of(op, number, by) else {
         return Ok(Answer::Range);
     };

@@ -24,7 +24,9 @@ same c =
     let is = c.in_ok-entry.ensures ∙ ap record_of bytes in
     math_outcome c.args.conf.now c.args.entries.now.items c.args.moment r.op c.args.key.now r.by r.ttl (option_copied c.alive-alive.result) number result c.dies_of_number-dies.result c.in_ok-entry.entry
     (sym c.is_bad_key.ensures ∙ c.if-is_bad_key.false) (rw c.deref.ensures.value at c.alive-alive.ensures) c.in-Some.ensures
-    (sym (rw by_is at c.is_zero_division.ensures) ∙ c.if-is_zero_division.false) c.dies_of_number-dies.ensures (rw (to_z-of_z w64 number number_fits, by_is) at c.in-Some-result_of.ensures) is
+    (sym (rw by_is at c.is_zero_division.ensures) ∙ c.if-is_zero_division.false)
+    (c.dies_of_number-dies.ensures (option_copied c.alive-alive.result) c.dies_of.ensures)
+    (rw (to_z-of_z w64 number number_fits, by_is) at c.in-Some-result_of.ensures) is
 
 pub returns-clause-answer : goal.returns-clause-answer
 returns-clause-answer c =
