@@ -7,6 +7,7 @@ use Rattle.std.proofs.lemmas.Bool.{cond-false, and_parts, not-true, false_from_n
 use Rattle.std.proofs.lemmas.List.Recursion.{and_at}
 use Rattle.uw_model.specs.declared.conf.CacheConf.{CacheConf}
 use Rattle.uw_model.specs.declared.entries.Entry.{Entry}
+use Rattle.uw_model.specs.Entries.{new_entry}
 use Rattle.uw_model.specs.Placement.{is_alive}
 use Rattle.uw_model.specs.declared.calls.Call.TheVariants as calls
 use Rattle.uw_model.specs.declared.calls.Answer.TheVariants as answers
@@ -74,7 +75,7 @@ used_at conf list place d own within purges = rw purges (ap (λ l. get_or list p
 
 -- there is an alive entry where it has a place
 pub nothing : Entry
-nothing = record { key = []; value = []; dies = 0; first = 0 }
+nothing = new_entry [] [] 0 0 0
 
 pub is_some_place : (conf : CacheConf) (list : List Entry) (now : ℕ) (key : List ℕ) (place : Option ℕ) → MatchOption place (alive_at conf list now key ≡ None) (IsAlivePlace conf list now key) → is_some place ≡ is_some (alive_at conf list now key)
 is_some_place conf list now key None h = sym (ap is_some h)

@@ -11,9 +11,9 @@ use Rattle.uw_model.specs.declared.calls.Call.{Call}
 use Rattle.uw_model.specs.declared.calls.Answer.{Answer}
 use Rattle.uw_model.specs.declared.calls.Call.TheVariants as calls
 use Rattle.uw_model.specs.declared.calls.Answer.TheVariants as answers
-use Rattle.uw_model.specs.Entries.{span, covers}
+use Rattle.uw_model.specs.Entries.{new_entry, span, covers}
 use Rattle.uw_model.specs.Placement.{is_alive, is_clear_of, is_free, first_run, room}
-use Rattle.uw_model.specs.Calls.{Outcome, refused, is_bad_key, is_too_long, alive_at, without, got, placed, deleted, is_no_number, number_at, result_of, is_zero_division, is_in_range, bytes_of_number, dies_of_number, answer, next_state, dies_at}
+use Rattle.uw_model.specs.Calls.{Outcome, refused, is_bad_key, is_too_long, alive_at, without, value_answer, got, placed, deleted, is_no_number, number_at, result_of, is_zero_division, is_in_range, bytes_of_number, dies_of_number, answer, next_state, dies_at}
 use Rattle.uw_model.specs.Laws.{is_refusal, IsLeastRun}
 use Rattle.uw_model.proofs.KeysLemmas.{nothing, list_all_each, same_key}
 use Rattle.uw_model.proofs.PlacementLemmas.{least_place_is, least_place_none, least_place_nowhere, first_run_found}
@@ -67,9 +67,9 @@ got_keeps : (conf : CacheConf) (list : List Entry) (found : Option Entry) → Ke
 got_keeps conf list None = λ _. refl
 got_keeps conf list (Some e) = λ h. absurd (false≢true h)
 
-placed_keeps : (conf : CacheConf) (list : List Entry) (key value : List ℕ) (dies : ℕ) (answered : Answer) (kept : Option (List Entry)) → is_refusal answered ≡ false → Keeps list (placed conf list key value dies answered kept)
-placed_keeps conf list key value dies answered None done = λ _. refl
-placed_keeps conf list key value dies answered (Some kept) done = λ h. absurd (both_ways (is_refusal answered) done h)
+placed_keeps : (conf : CacheConf) (list : List Entry) (now : ℕ) (key value : List ℕ) (dies : ℕ) (answered : Answer) (kept : Option (List Entry)) → is_refusal answered ≡ false → Keeps list (placed conf list now key value dies answered kept)
+placed_keeps conf list now key value dies answered None done = λ _. refl
+placed_keeps conf list now key value dies answered (Some kept) done = λ h. absurd (both_ways (is_refusal answered) done h)
 
 deleted_keeps : (list : List Entry) (found : Option Entry) → Keeps list (deleted list found)
 deleted_keeps list None = λ _. refl
@@ -82,11 +82,11 @@ refused_keeps conf list now (calls.Set key value ttl) =
     unless_keeps list (is_bad_key conf key) answers.KeyLength _ (
     unless_keeps list (is_too_long conf value) answers.TooLong _ (
     unless_keeps list (is_some (alive_at conf list now key)) answers.Exists _ (
-    placed_keeps conf list key value (dies_at now ttl) answers.Done (room conf (without key list) (span conf value) now) refl)))
+    placed_keeps conf list now key value (dies_at now ttl) answers.Done (room conf (without key list) (span conf value) now) refl)))
 refused_keeps conf list now (calls.Update key value ttl) =
     unless_keeps list (is_bad_key conf key) answers.KeyLength _ (
     unless_keeps list (is_too_long conf value) answers.TooLong _ (
-    placed_keeps conf list key value (dies_at now ttl) answers.Done (room conf (without key list) (span conf value) now) refl))
+    placed_keeps conf list now key value (dies_at now ttl) answers.Done (room conf (without key list) (span conf value) now) refl))
 refused_keeps conf list now (calls.Del key) =
     unless_keeps list (is_bad_key conf key) answers.KeyLength _ (deleted_keeps list (alive_at conf list now key))
 refused_keeps conf list now (calls.Exists key) = unless_keeps list (is_bad_key conf key) answers.KeyLength _ (λ _. refl)
@@ -101,7 +101,7 @@ refused_keeps conf list now (calls.Math op key by ttl) =
     unless_keeps list (is_no_number alive) answers.NotNumber _ (
     unless_keeps list (is_zero_division op by) answers.ZeroDivisor _ (
     unless_keeps list (not (is_in_range number)) answers.Range _ (
-    placed_keeps conf list key (bytes_of_number number) (dies_of_number now ttl alive) (answers.Number number) (room conf (without key list) (span conf (bytes_of_number number)) now) refl))))
+    placed_keeps conf list now key (bytes_of_number number) (dies_of_number now ttl alive) (answers.Number number) (room conf (without key list) (span conf (bytes_of_number number)) now) refl))))
 refused_keeps conf list now calls.Keys = λ _. refl
 refused_keeps conf list now calls.Sweep = λ h. absurd (false≢true h)
 
@@ -117,7 +117,7 @@ pub front_alive : (conf : CacheConf) (new : Entry) (kept : List Entry) (later : 
 front_alive conf new kept later alive =
     cond-true (bytes_eq new.key new.key && is_alive conf later new) (Some new) (alive_at conf kept later new.key) (and_from (bytes_eq new.key new.key) (is_alive conf later new) (same_key new.key) alive)
 
-front_read : (conf : CacheConf) (new : Entry) (kept : List Entry) (later : ℕ) → is_bad_key conf new.key ≡ false → is_alive conf later new ≡ true → answer conf (new ∷ kept) later (calls.Get new.key) ≡ answers.Value new.value
+front_read : (conf : CacheConf) (new : Entry) (kept : List Entry) (later : ℕ) → is_bad_key conf new.key ≡ false → is_alive conf later new ≡ true → answer conf (new ∷ kept) later (calls.Get new.key) ≡ value_answer new
 front_read conf new kept later good alive =
     ap (λ o. o.answer) (cond-false (is_bad_key conf new.key) (refused answers.KeyLength (new ∷ kept)) (got conf (new ∷ kept) (alive_at conf (new ∷ kept) later new.key)) good
     ∙ ap (got conf (new ∷ kept)) (front_alive conf new kept later alive))
@@ -125,10 +125,10 @@ front_read conf new kept later good alive =
 pub alive_before : (conf : CacheConf) (e : Entry) (later : ℕ) → (e.dies ≡ 0) ⊎ (later < e.dies) → is_alive conf later e ≡ true
 alive_before conf e later before = grind (arith, nat_tests)
 
-placed_reads : (conf : CacheConf) (later : ℕ) (list : List Entry) (key value : List ℕ) (dies : ℕ) (kept : Option (List Entry)) → is_bad_key conf key ≡ false → ((e : Entry) → e.dies ≡ dies → is_alive conf later e ≡ true) → Reads conf later key value (placed conf list key value dies answers.Done kept)
-placed_reads conf later list key value dies None good alive = λ e. absurd (cc)
-placed_reads conf later list key value dies (Some kept) good alive = λ _.
-    let new : Entry = record { key = key; value = value; dies = dies; first = unwrap_or (first_run conf kept (span conf value)) 0 } in
+placed_reads : (conf : CacheConf) (later now : ℕ) (list : List Entry) (key value : List ℕ) (dies : ℕ) (kept : Option (List Entry)) → is_bad_key conf key ≡ false → ((e : Entry) → e.dies ≡ dies → is_alive conf later e ≡ true) → Reads conf later key value (placed conf list now key value dies answers.Done kept)
+placed_reads conf later now list key value dies None good alive = λ e. absurd (cc)
+placed_reads conf later now list key value dies (Some kept) good alive = λ _.
+    let new = new_entry key value dies (unwrap_or (first_run conf kept (span conf value)) 0) now in
     front_read conf new kept later good (alive new refl)
 
 -- what a set wrote is read, at a moment at which each entry that dies when it does is alive
@@ -137,7 +137,7 @@ set_reads_alive conf list now later ttl key value done alive =
     (unless_reads conf later key value list (is_bad_key conf key) answers.KeyLength _ (λ e. absurd (cc)) (λ good.
     unless_reads conf later key value list (is_too_long conf value) answers.TooLong _ (λ e. absurd (cc)) (λ _.
     unless_reads conf later key value list (is_some (alive_at conf list now key)) answers.Exists _ (λ e. absurd (cc)) (λ _.
-    placed_reads conf later list key value (dies_at now ttl) (room conf (without key list) (span conf value) now) good alive)))) done
+    placed_reads conf later now list key value (dies_at now ttl) (room conf (without key list) (span conf value) now) good alive)))) done
 
 pub set_reads : (conf : CacheConf) (list : List Entry) (now later ttl : ℕ) (key value : List ℕ) → answer conf list now (calls.Set key value ttl) ≡ answers.Done → (dies_at now ttl ≡ 0) ⊎ (later < dies_at now ttl) → answer conf (next_state conf list now (calls.Set key value ttl)) later (calls.Get key) ≡ answers.Value value
 set_reads conf list now later ttl key value done before =

@@ -13,7 +13,7 @@ use Rattle.uw_model.specs.declared.calls.Answer.{Answer}
 use Rattle.uw_model.specs.declared.calls.MathOp.TheVariants as ops
 use Rattle.uw_model.specs.declared.calls.Call.TheVariants as calls
 use Rattle.uw_model.specs.declared.calls.Answer.TheVariants as answers
-use Rattle.uw_model.specs.Entries.{span}
+use Rattle.uw_model.specs.Entries.{new_entry, span}
 use Rattle.uw_model.specs.Placement.{is_alive, first_run, room}
 use Rattle.uw_model.specs.Calls.{Outcome, refused, is_bad_key, alive_at, without, placed, written, is_no_number, number_of, number_at, result_of, is_zero_division, is_in_range, bytes_of_number, dies_of_number, number_outcome, outcome, answer, next_state, dies_at}
 use Rattle.uw_model.specs.Laws.{is_refusal, list_after_amounts, TakesAmounts}
@@ -39,7 +39,7 @@ math_written conf list now op key by ttl good eight divides fits =
     ∙ cond-false (not (is_in_range number)) (refused answers.Range list) last (not_from_true (is_in_range number) fits)
 
 -- the same, from what each step of the call found
-pub math_outcome : (conf : CacheConf) (list : List Entry) (now : ℕ) (op : MathOp) (key : List ℕ) (by : ℤ) (ttl : ℕ) (alive : Option Entry) (number result : ℤ) (dies : ℕ) (entry : Entry) → is_bad_key conf key ≡ false → alive ≡ alive_at conf list now key → Some number ≡ cond (is_no_number alive) None (Some (number_at alive)) → is_zero_division op by ≡ false → dies ≡ dies_of_number now ttl alive → Some result ≡ cond (is_in_range (result_of op number by)) (Some (result_of op number by)) None → entry ≡ record { key = key; value = bytes_of_number result; dies = dies; first = 0 } → written conf list now entry.key entry.value entry.dies (answers.Number result) ≡ outcome conf list now (calls.Math op key by ttl)
+pub math_outcome : (conf : CacheConf) (list : List Entry) (now : ℕ) (op : MathOp) (key : List ℕ) (by : ℤ) (ttl : ℕ) (alive : Option Entry) (number result : ℤ) (dies : ℕ) (entry : Entry) → is_bad_key conf key ≡ false → alive ≡ alive_at conf list now key → Some number ≡ cond (is_no_number alive) None (Some (number_at alive)) → is_zero_division op by ≡ false → dies ≡ dies_of_number now ttl alive → Some result ≡ cond (is_in_range (result_of op number by)) (Some (result_of op number by)) None → entry ≡ new_entry key (bytes_of_number result) dies 0 now → written conf list now entry.key entry.value entry.dies (answers.Number result) ≡ outcome conf list now (calls.Math op key by ttl)
 math_outcome conf list now op key by ttl alive number result dies entry good found read divides moment number_outcome is =
     let eight = none_or (is_no_number alive) (number_at alive) number (sym read) in
     let fits = cond_some (is_in_range (result_of op number by)) (result_of op number by) result (sym number_outcome) in
@@ -64,9 +64,13 @@ number_back (negsuc n) range =
     let small : n < 2 ^ 63 = ltb-true n (2 ^ 63) range in back_by (negsuc n) (record { sfits = small }) (omega arith)
 
 -- the number of an entry in front of a list, at a moment at which it is alive
-front_num : (conf : CacheConf) (key : List ℕ) (number : ℤ) (dies first : ℕ) (kept : List Entry) (later : ℕ) → is_bad_key conf key ≡ false → is_in_range number ≡ true → is_alive conf later (record { key = key; value = bytes_of_number number; dies = dies; first = first }) ≡ true → answer conf (record { key = key; value = bytes_of_number number; dies = dies; first = first } ∷ kept) later (calls.Num key) ≡ answers.Number number
-front_num conf key number dies first kept later good range alive =
-    let new : Entry = record { key = key; value = bytes_of_number number; dies = dies; first = first } in
+front_num : (conf : CacheConf) (key : List ℕ) (number : ℤ) (dies first now : ℕ) (kept : List Entry) (later : ℕ)
+    → is_bad_key conf key ≡ false → is_in_range number ≡ true
+    → is_alive conf later (new_entry key (bytes_of_number number) dies first now) ≡ true
+    → answer conf (new_entry key (bytes_of_number number) dies first now ∷ kept) later (calls.Num key)
+    ≡ answers.Number number
+front_num conf key number dies first now kept later good range alive =
+    let new = new_entry key (bytes_of_number number) dies first now in
     let list = new ∷ kept in
     let found = front_alive conf new kept later alive in
     let said = λ (o : Option Entry). let out : Outcome = cond (is_no_number o) (refused answers.NotNumber list) (record { answer = answers.Number (number_at o); list = list }) in out in
@@ -74,24 +78,24 @@ front_num conf key number dies first kept later good range alive =
     ∙ ap (λ n. answers.Number n) (number_back number range)
 
 -- an outcome that is no refusal has an entry with the number in front
-record IsNumbered (conf : CacheConf) (key : List ℕ) (number : ℤ) (dies : ℕ) (alive : Option Entry) (o : Outcome) : Type 0 where
+record IsNumbered (conf : CacheConf) (now : ℕ) (key : List ℕ) (number : ℤ) (dies : ℕ) (alive : Option Entry) (o : Outcome) : Type 0 where
   kept : List Entry
   first : ℕ
   good : is_bad_key conf key ≡ false
   eight : is_no_number alive ≡ false
   range : is_in_range number ≡ true
-  is : o ≡ record { answer = answers.Number number; list = record { key = key; value = bytes_of_number number; dies = dies; first = first } ∷ kept }
+  is : o ≡ record { answer = answers.Number number; list = new_entry key (bytes_of_number number) dies first now ∷ kept }
 
-abbrev Numbers : CacheConf → List ℕ → ℤ → ℕ → Option Entry → Outcome → Type 0
-Numbers conf key number dies alive o = is_refusal o.answer ≡ false → IsNumbered conf key number dies alive o
+abbrev Numbers : CacheConf → ℕ → List ℕ → ℤ → ℕ → Option Entry → Outcome → Type 0
+Numbers conf now key number dies alive o = is_refusal o.answer ≡ false → IsNumbered conf now key number dies alive o
 
-unless_numbers : (conf : CacheConf) (key : List ℕ) (number : ℤ) (dies : ℕ) (alive : Option Entry) (list : List Entry) (refuses : Bool) (a : Answer) (rest : Outcome) → is_refusal a ≡ true → (refuses ≡ false → Numbers conf key number dies alive rest) → Numbers conf key number dies alive (cond refuses (refused a list) rest)
-unless_numbers conf key number dies alive list true a rest refusal go = λ h. absurd (both_ways (is_refusal a) h refusal)
-unless_numbers conf key number dies alive list false a rest refusal go = go refl
+unless_numbers : (conf : CacheConf) (now : ℕ) (key : List ℕ) (number : ℤ) (dies : ℕ) (alive : Option Entry) (list : List Entry) (refuses : Bool) (a : Answer) (rest : Outcome) → is_refusal a ≡ true → (refuses ≡ false → Numbers conf now key number dies alive rest) → Numbers conf now key number dies alive (cond refuses (refused a list) rest)
+unless_numbers conf now key number dies alive list true a rest refusal go = λ h. absurd (both_ways (is_refusal a) h refusal)
+unless_numbers conf now key number dies alive list false a rest refusal go = go refl
 
-placed_numbers : (conf : CacheConf) (list : List Entry) (key : List ℕ) (number : ℤ) (dies : ℕ) (alive : Option Entry) (kept : Option (List Entry)) → is_bad_key conf key ≡ false → is_no_number alive ≡ false → is_in_range number ≡ true → Numbers conf key number dies alive (placed conf list key (bytes_of_number number) dies (answers.Number number) kept)
-placed_numbers conf list key number dies alive None good eight range = λ h. absurd (both_ways true h refl)
-placed_numbers conf list key number dies alive (Some kept) good eight range = λ _. record {
+placed_numbers : (conf : CacheConf) (list : List Entry) (now : ℕ) (key : List ℕ) (number : ℤ) (dies : ℕ) (alive : Option Entry) (kept : Option (List Entry)) → is_bad_key conf key ≡ false → is_no_number alive ≡ false → is_in_range number ≡ true → Numbers conf now key number dies alive (placed conf list now key (bytes_of_number number) dies (answers.Number number) kept)
+placed_numbers conf list now key number dies alive None good eight range = λ h. absurd (both_ways true h refl)
+placed_numbers conf list now key number dies alive (Some kept) good eight range = λ _. record {
   kept = kept;
   first = unwrap_or (first_run conf kept (span conf (bytes_of_number number))) 0;
   good = good;
@@ -100,16 +104,16 @@ placed_numbers conf list key number dies alive (Some kept) good eight range = λ
   is = refl;
 }
 
-math_numbers : (conf : CacheConf) (list : List Entry) (now : ℕ) (op : MathOp) (key : List ℕ) (by : ℤ) (ttl : ℕ) → Numbers conf key (result_of op (number_at (alive_at conf list now key)) by) (dies_of_number now ttl (alive_at conf list now key)) (alive_at conf list now key) (outcome conf list now (calls.Math op key by ttl))
+math_numbers : (conf : CacheConf) (list : List Entry) (now : ℕ) (op : MathOp) (key : List ℕ) (by : ℤ) (ttl : ℕ) → Numbers conf now key (result_of op (number_at (alive_at conf list now key)) by) (dies_of_number now ttl (alive_at conf list now key)) (alive_at conf list now key) (outcome conf list now (calls.Math op key by ttl))
 math_numbers conf list now op key by ttl =
     let alive = alive_at conf list now key in
     let number = result_of op (number_at alive) by in
     let dies = dies_of_number now ttl alive in
-    unless_numbers conf key number dies alive list (is_bad_key conf key) answers.KeyLength _ refl (λ good.
-    unless_numbers conf key number dies alive list (is_no_number alive) answers.NotNumber _ refl (λ eight.
-    unless_numbers conf key number dies alive list (is_zero_division op by) answers.ZeroDivisor _ refl (λ _.
-    unless_numbers conf key number dies alive list (not (is_in_range number)) answers.Range _ refl (λ range.
-    placed_numbers conf list key number dies alive (room conf (without key list) (span conf (bytes_of_number number)) now) good eight (not-false (is_in_range number) range)))))
+    unless_numbers conf now key number dies alive list (is_bad_key conf key) answers.KeyLength _ refl (λ good.
+    unless_numbers conf now key number dies alive list (is_no_number alive) answers.NotNumber _ refl (λ eight.
+    unless_numbers conf now key number dies alive list (is_zero_division op by) answers.ZeroDivisor _ refl (λ _.
+    unless_numbers conf now key number dies alive list (not (is_in_range number)) answers.Range _ refl (λ range.
+    placed_numbers conf list now key number dies alive (room conf (without key list) (span conf (bytes_of_number number)) now) good eight (not-false (is_in_range number) range)))))
 
 -- after a number call that is not refused, the number of the key is its result at each moment at which the entry is alive
 math_num : (conf : CacheConf) (list : List Entry) (now later : ℕ) (op : MathOp) (key : List ℕ) (by : ℤ) (ttl : ℕ) → is_refusal (answer conf list now (calls.Math op key by ttl)) ≡ false → ((e : Entry) → e.dies ≡ dies_of_number now ttl (alive_at conf list now key) → is_alive conf later e ≡ true) → answer conf (next_state conf list now (calls.Math op key by ttl)) later (calls.Num key) ≡ answers.Number (result_of op (number_at (alive_at conf list now key)) by)
@@ -117,8 +121,8 @@ math_num conf list now later op key by ttl said alive =
     let number = result_of op (number_at (alive_at conf list now key)) by in
     let dies = dies_of_number now ttl (alive_at conf list now key) in
     let h = math_numbers conf list now op key by ttl said in
-    let new : Entry = record { key = key; value = bytes_of_number number; dies = dies; first = h.first } in
-    ap (λ (o : Outcome). answer conf o.list later (calls.Num key)) h.is ∙ front_num conf key number dies h.first h.kept later h.good h.range (alive new refl)
+    let new = new_entry key (bytes_of_number number) dies h.first now in
+    ap (λ (o : Outcome). answer conf o.list later (calls.Num key)) h.is ∙ front_num conf key number dies h.first now h.kept later h.good h.range (alive new refl)
 
 pub answered_kept : (conf : CacheConf) (list : List Entry) (now later ttl : ℕ) (key : List ℕ) (op : MathOp) (by number : ℤ) → answer conf list now (calls.Math op key by ttl) ≡ answers.Number number → (dies_of_number now ttl (alive_at conf list now key) ≡ 0) ⊎ (later < dies_of_number now ttl (alive_at conf list now key)) → answer conf (next_state conf list now (calls.Math op key by ttl)) later (calls.Num key) ≡ answers.Number number
 answered_kept conf list now later ttl key op by number answered before =

@@ -13,7 +13,7 @@ use Rattle.uw_model.specs.declared.calls.Call.{Call}
 use Rattle.uw_model.specs.declared.calls.Answer.{Answer}
 use Rattle.uw_model.specs.declared.calls.Call.TheVariants as calls
 use Rattle.uw_model.specs.declared.calls.Answer.TheVariants as answers
-use Rattle.uw_model.specs.Entries.{IsCacheConf, IsEntry, IsApart, IsApartFrom, AreApart, IsState, max_value, span}
+use Rattle.uw_model.specs.Entries.{IsCacheConf, IsEntry, IsApart, IsApartFrom, AreApart, IsState, max_value, new_entry, span}
 use Rattle.uw_model.specs.Placement.{is_alive, is_clear_of, is_free, first_run, room}
 use Rattle.uw_model.specs.Calls.{Outcome, refused, is_bad_key, is_too_long, alive_at, without, got, placed, written, deleted, is_no_number, number_at, result_of, is_zero_division, is_in_range, bytes_of_number, dies_of_number, next_state, dies_at}
 use Rattle.uw_model.specs.KeySteps.{lacks}
@@ -106,8 +106,8 @@ passes_filter p (x ∷ xs) =
       | inr left ↦ rw left (passes_filter p xs)
     ]
 
-front_at : (conf : CacheConf) (list kept : List Entry) (key value : List ℕ) (dies s : ℕ) → IsFit conf key value → IsState conf list → IsRoom conf (without key list) kept (span conf value) → first_run conf kept (span conf value) ≡ Some s → IsState conf (record { key = key; value = value; dies = dies; first = s } ∷ kept)
-front_at conf list kept key value dies s fit state room run =
+front_at : (conf : CacheConf) (list kept : List Entry) (now : ℕ) (key value : List ℕ) (dies s : ℕ) → IsFit conf key value → IsState conf list → IsRoom conf (without key list) kept (span conf value) → first_run conf kept (span conf value) ≡ Some s → IsState conf (new_entry key value dies s now ∷ kept)
+front_at conf list kept now key value dies s fit state room run =
     let n = span conf value in
     let others = λ (e : Entry). not (bytes_eq e.key key) in
     let least = least_place_is (is_free conf kept n) (conf.blocks + 1 - n) 0 s run in
@@ -116,24 +116,24 @@ front_at conf list kept key value dies s fit state room run =
       few = omega (arith, few);
       apart = (
         record { key = fit.of_key; value = fit.of_value; blocks = omega (arith, least.below) },
-        front_apart conf (record { key = key; value = value; dies = dies; first = s }) kept (part_all others room.part (passes_filter others list)) least.holds,
+        front_apart conf (new_entry key value dies s now) kept (part_all others room.part (passes_filter others list)) least.holds,
         part_apart conf room.part (part_apart conf (part_filter others list) state.apart),
       );
     }
 
-front_state : (conf : CacheConf) (list kept : List Entry) (key value : List ℕ) (dies : ℕ) → IsFit conf key value → IsState conf list → IsRoom conf (without key list) kept (span conf value) → IsState conf (record { key = key; value = value; dies = dies; first = unwrap_or (first_run conf kept (span conf value)) 0 } ∷ kept)
-front_state conf list kept key value dies fit state room =
+front_state : (conf : CacheConf) (list kept : List Entry) (now : ℕ) (key value : List ℕ) (dies : ℕ) → IsFit conf key value → IsState conf list → IsRoom conf (without key list) kept (span conf value) → IsState conf (new_entry key value dies (unwrap_or (first_run conf kept (span conf value)) 0) now ∷ kept)
+front_state conf list kept now key value dies fit state room =
     let n = span conf value in
     let run = some_of (first_run conf kept n) (and_parts (nat_lt (length kept) conf.items) (is_some (first_run conf kept n)) room.fits).1 in
-    subst (λ o. IsState conf (record { key = key; value = value; dies = dies; first = unwrap_or o 0 } ∷ kept)) (sym run.1) (front_at conf list kept key value dies run.0 fit state room run.1)
+    subst (λ o. IsState conf (new_entry key value dies (unwrap_or o 0) now ∷ kept)) (sym run.1) (front_at conf list kept now key value dies run.0 fit state room run.1)
 
-placed_state : (conf : CacheConf) (list : List Entry) (key value : List ℕ) (dies : ℕ) (answered : Answer) (kept : Option (List Entry)) → IsFit conf key value → IsState conf list → ((k : List Entry) → kept ≡ Some k → IsRoom conf (without key list) k (span conf value)) → IsState conf (placed conf list key value dies answered kept).list
-placed_state conf list key value dies answered None fit state room = state
-placed_state conf list key value dies answered (Some kept) fit state room = front_state conf list kept key value dies fit state (room kept refl)
+placed_state : (conf : CacheConf) (list : List Entry) (now : ℕ) (key value : List ℕ) (dies : ℕ) (answered : Answer) (kept : Option (List Entry)) → IsFit conf key value → IsState conf list → ((k : List Entry) → kept ≡ Some k → IsRoom conf (without key list) k (span conf value)) → IsState conf (placed conf list now key value dies answered kept).list
+placed_state conf list now key value dies answered None fit state room = state
+placed_state conf list now key value dies answered (Some kept) fit state room = front_state conf list kept now key value dies fit state (room kept refl)
 
 written_state : (conf : CacheConf) (list : List Entry) (now : ℕ) (key value : List ℕ) (dies : ℕ) (answered : Answer) → IsCacheConf conf → IsFit conf key value → IsState conf list → IsState conf (written conf list now key value dies answered).list
 written_state conf list now key value dies answered is fit state =
-    placed_state conf list key value dies answered (room conf (without key list) (span conf value) now) fit state (λ k e. room_is conf (without key list) k (span conf value) now (empty_fits conf (span conf value) is (span_within conf value is fit.of_value)) e)
+    placed_state conf list now key value dies answered (room conf (without key list) (span conf value) now) fit state (λ k e. room_is conf (without key list) k (span conf value) now (empty_fits conf (span conf value) is (span_within conf value is fit.of_value)) e)
 
 -- ---- the calls
 

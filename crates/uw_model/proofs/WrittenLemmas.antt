@@ -7,7 +7,7 @@ use Rattle.uw_model.specs.declared.calls.Answer.{Answer}
 use Rattle.uw_model.specs.declared.calls.MathOp.{MathOp}
 use Rattle.uw_model.specs.declared.calls.Call.TheVariants as calls
 use Rattle.uw_model.specs.declared.calls.Answer.TheVariants as answers
-use Rattle.uw_model.specs.Entries.{IsCacheConf, max_value, span}
+use Rattle.uw_model.specs.Entries.{IsCacheConf, max_value, new_entry, span}
 use Rattle.uw_model.specs.Placement.{first_run, room}
 use Rattle.uw_model.specs.Calls.{Outcome, refused, is_bad_key, is_too_long, alive_at, without, placed, written, is_no_number, number_at, result_of, is_zero_division, is_in_range, bytes_of_number, dies_of_number, answer, next_state, dies_at}
 use Rattle.uw_model.specs.Laws.{IsWritten}
@@ -26,7 +26,7 @@ module _ (conf : CacheConf) (list : List Entry) (now : ℕ) (key : List ℕ) whe
   unless_writes value dies given true refusal rest other go = λ e. absurd (other e)
   unless_writes value dies given false refusal rest other go = go refl
 
-  placed_writes : (value : List ℕ) (dies : ℕ) (given : Answer) (kept : Option (List Entry)) → IsCacheConf conf → length value ≤ max_value conf → answers.Full ≢ given → room conf (without key list) (span conf value) now ≡ kept → Writes value dies given (placed conf list key value dies given kept)
+  placed_writes : (value : List ℕ) (dies : ℕ) (given : Answer) (kept : Option (List Entry)) → IsCacheConf conf → length value ≤ max_value conf → answers.Full ≢ given → room conf (without key list) (span conf value) now ≡ kept → Writes value dies given (placed conf list now key value dies given kept)
   placed_writes value dies given None is short other made = λ e. absurd (other e)
   placed_writes value dies given (Some kept) is short other made = λ _.
       let n = span conf value in
@@ -37,7 +37,7 @@ module _ (conf : CacheConf) (list : List Entry) (now : ℕ) (key : List ℕ) whe
         place = run.0;
         room = made;
         run = run.1;
-        front = ap (λ (o : Option ℕ). let e : Entry = record { key = key; value = value; dies = dies; first = unwrap_or o 0 } in e ∷ kept) run.1;
+        front = ap (λ (o : Option ℕ). new_entry key value dies (unwrap_or o 0) now ∷ kept) run.1;
       }
 
   written_writes : (value : List ℕ) (dies : ℕ) (given : Answer) → IsCacheConf conf → length value ≤ max_value conf → answers.Full ≢ given → Writes value dies given (written conf list now key value dies given)
@@ -69,8 +69,8 @@ module _ (conf : CacheConf) (list : List Entry) (now : ℕ) (key : List ℕ) whe
       numbered (room conf (without key list) (span conf (bytes_of_number result)) now) refl said
     where
       numbered : (kept : Option (List Entry)) → room conf (without key list) (span conf (bytes_of_number result)) now ≡ kept
-          → (placed conf list key (bytes_of_number result) dies (answers.Number result) kept).answer ≡ answers.Number number
-          → IsWritten conf list now key (bytes_of_number number) dies (placed conf list key (bytes_of_number result) dies (answers.Number result) kept).list
+          → (placed conf list now key (bytes_of_number result) dies (answers.Number result) kept).answer ≡ answers.Number number
+          → IsWritten conf list now key (bytes_of_number number) dies (placed conf list now key (bytes_of_number result) dies (answers.Number result) kept).list
       numbered None made e = absurd (cc)
       numbered (Some kept) made e =
           let same : result ≡ number = cc in

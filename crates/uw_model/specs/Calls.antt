@@ -11,7 +11,7 @@ use Rattle.uw_model.specs.declared.calls.MathOp.{MathOp}
 use Rattle.uw_model.specs.declared.calls.Call.TheVariants as calls
 use Rattle.uw_model.specs.declared.calls.Answer.TheVariants as answers
 use Rattle.uw_model.specs.declared.calls.MathOp.TheVariants as ops
-use Rattle.uw_model.specs.Entries.{max_value, span}
+use Rattle.uw_model.specs.Entries.{max_value, new_entry, span}
 use Rattle.uw_model.specs.Placement.{is_alive, alive_of, first_run, room}
 
 -- what a call answers, and the list after it
@@ -43,24 +43,28 @@ without key list = filter (λ e. not (bytes_eq e.key key)) list
 abbrev pub refused : Answer → List Entry → Outcome
 refused answer list = record { answer = answer; list = list }
 
+-- the value of an entry, as an answer
+abbrev pub value_answer : Entry → Answer
+value_answer e = answers.Value e.value
+
 -- a get of the alive entry, which is a use: with `purge_lru` the entry becomes the most recent
 abbrev pub got : CacheConf → List Entry → Option Entry → Outcome
 got conf list None = record { answer = answers.Missing; list = list }
 got conf list (Some e) =
-    record { answer = answers.Value e.value; list = if conf.purge_lru then e ∷ without e.key list else list }
+    record { answer = value_answer e; list = if conf.purge_lru then e ∷ without e.key list else list }
 
 -- an entry written in front of the list that has room for it, at the first run; refused as full where no list has
-abbrev pub placed : CacheConf → List Entry → List ℕ → List ℕ → ℕ → Answer → Option (List Entry) → Outcome
-placed conf list key value dies answered None = refused answers.Full list
-placed conf list key value dies answered (Some kept) = record {
+abbrev pub placed : CacheConf → List Entry → ℕ → List ℕ → List ℕ → ℕ → Answer → Option (List Entry) → Outcome
+placed conf list now key value dies answered None = refused answers.Full list
+placed conf list now key value dies answered (Some kept) = record {
   answer = answered;
-  list = record { key = key; value = value; dies = dies; first = unwrap_or (first_run conf kept (span conf value)) 0 } ∷ kept;
+  list = new_entry key value dies (unwrap_or (first_run conf kept (span conf value)) 0) now ∷ kept;
 }
 
 -- the value of a key written, in room made at this moment
 abbrev pub written : CacheConf → List Entry → ℕ → List ℕ → List ℕ → ℕ → Answer → Outcome
 written conf list now key value dies answered =
-    placed conf list key value dies answered (room conf (without key list) (span conf value) now)
+    placed conf list now key value dies answered (room conf (without key list) (span conf value) now)
 
 -- the value of an alive entry is not one of eight bytes
 abbrev pub is_no_number : Option Entry → Bool

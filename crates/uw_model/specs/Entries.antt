@@ -13,6 +13,10 @@ pub record IsCacheConf (conf : CacheConf) : Type 0 where
   pub chains : (1 ≤ conf.chains) × (conf.chains ≤ 1048576)
   pub no_bitmap : conf.bitmap ≡ false → conf.blocks ≡ conf.items
 
+-- the entry that is written now under a key: its value, when it dies, 0 for never, and its first block are given
+abbrev pub new_entry : List ℕ → List ℕ → ℕ → ℕ → ℕ → Entry
+new_entry key value dies first now = record { key = key; value = value; dies = dies; first = first }
+
 -- the longest value, in bytes: a block, or with the bitmap all blocks, and never more than 65,536 (own rule)
 abbrev pub max_value : CacheConf → ℕ
 max_value conf = min 65536 (if conf.bitmap then conf.blocks * conf.blocksize else conf.blocksize)

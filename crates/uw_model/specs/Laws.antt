@@ -6,7 +6,7 @@ use Rattle.uw_model.specs.declared.calls.Answer.{Answer}
 use Rattle.uw_model.specs.declared.calls.Answer.TheVariants as answers
 use Rattle.uw_model.specs.declared.calls.MathOp.TheVariants as ops
 use Rattle.uw_model.specs.declared.calls.Call.TheVariants as calls
-use Rattle.uw_model.specs.Entries.{span}
+use Rattle.uw_model.specs.Entries.{new_entry, span}
 use Rattle.uw_model.specs.Placement.{is_free, first_run, fits, room}
 use Rattle.uw_model.specs.Calls.{without, answer, next_state}
 
@@ -53,4 +53,4 @@ pub record IsWritten (conf : CacheConf) (list : List Entry) (now : ℕ) (key val
   pub place : ℕ
   pub room : room conf (without key list) (span conf value) now ≡ Some kept
   pub run : first_run conf kept (span conf value) ≡ Some place
-  pub front : after ≡ record { key = key; value = value; dies = dies; first = place } ∷ kept
+  pub front : after ≡ new_entry key value dies place now ∷ kept

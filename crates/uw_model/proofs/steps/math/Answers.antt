@@ -1,10 +1,10 @@
 -- What is written after each test that refuses the call is what the call writes.
 use Rattle.std.proofs.Common.{◌≡◌, IfOk, OnOk, List, ℕ, option_copied, w64, FitsSigned, rules, subst, sym, ap, ◌∙◌}
 use Rattle.std.proofs.lemmas.Int.{to_z-of_z}
-use Rattle.uw_model.specs.declared.entries.Entry.{Entry}
 use Rattle.uw_model.specs.declared.calls.Answer.TheVariants as answers
 use Rattle.uw_model.specs.declared.calls.Call.TheVariants as calls
 use Rattle.uw_model.specs.Calls.{Outcome, written, outcome}
+use Rattle.uw_model.specs.Entries.{new_entry}
 use Rattle.uw_model.proofs.MathLemmas.{math_outcome}
 use Rattle.uw_model.proofs.steps.math.Goals as goal
 use Rattle.uw_model.proofs.steps.math.Goals.{After-write}
@@ -20,8 +20,8 @@ same c =
     let result_fits : FitsSigned w64 result = search rules in
     let by_is = to_z-of_z w64 r.by by_fits in
     let bytes = rw (to_z-of_z w64 result result_fits) at c.to_le_bytes.ensures in
-    let record_of = λ (v : List ℕ). let made : Entry = record { key = c.args.key.now; value = v; dies = c.dies_of_number-dies.result; first = 0 } in made in
-    let is = c.in_ok-entry.ensures ∙ ap record_of bytes in
+    let entry_of = λ (v : List ℕ). new_entry c.args.key.now v c.dies_of_number-dies.result 0 c.args.moment in
+    let is = c.in_ok-entry.ensures ∙ ap entry_of bytes in
     math_outcome c.args.conf.now c.args.entries.now.items c.args.moment r.op c.args.key.now r.by r.ttl (option_copied c.alive-alive.result) number result c.dies_of_number-dies.result c.in_ok-entry.entry
     (sym c.is_bad_key.ensures ∙ c.if-is_bad_key.false) (rw c.deref.ensures.value at c.alive-alive.ensures) c.in-Some.ensures
     (sym (rw by_is at c.is_zero_division.ensures) ∙ c.if-is_zero_division.false)
