@@ -1,5 +1,5 @@
 -- The parts of an overlay, as its calls leave them.
-use Rattle.std.proofs.Common.{◌≡◌, ◌≢◌, ◌⊎◌, ⊎_elim, ℕ, ◌-◌, ◌*◌, ◌<◌, ◌≤◌, List, [], Option, None, IsSome, unwrap_or, Vec, vec_len, length, get_or, set, replicate, sym, ap, ◌∙◌, subst, arith}
+use Rattle.std.proofs.Common.{◌≡◌, ◌≢◌, ◌⊎◌, ⊎_elim, ℕ, ◌-◌, ◌*◌, ◌^◌, ◌<◌, ◌≤◌, List, [], Option, None, IsSome, unwrap_or, Vec, vec_len, length, get_or, set, replicate, sym, ap, ◌∙◌, subst, arith}
 use Rattle.std.specs.Vec.{vec_capacity}
 use Rattle.std.specs.declared.alloc.Global.{Global}
 use Rattle.std.proofs.lemmas.List.{length-replicate}
@@ -12,12 +12,13 @@ use Rattle.uw_words.proofs.Writes.{planned_none, planned_at, with_put_at}
 
 -- no write is planned
 pub sound_empty : (room most : ℕ) (writes : Vec (ℕ × ℕ) Global) (slots : Vec ℕ Global) → writes.items ≡ [] → room ≤ vec_capacity writes → slots.items ≡ replicate 128 0
-    → most ≤ vec_capacity slots → 128 ≤ most → 2 * room < most → IsSound room writes slots most
-sound_empty room most writes slots none capacity empty within fewest enough =
+    → most ≤ vec_capacity slots → 128 ≤ most → 2 * room < most → room < 2 ^ 32 → IsSound room writes slots most
+sound_empty room most writes slots none capacity empty within fewest enough few =
     let no_write : vec_len writes ≡ 0 = writes.ok.0 ∙ ap length none in
     let len : vec_len slots ≡ 128 = slots.ok.0 ∙ ap length empty ∙ length-replicate {A = ℕ} 128 0 in
     record {
       within = omega arith;
+      few = few;
       capacity = capacity;
       distinct = subst HasDistinctPlaces (sym none) (λ i j d early h. absurd (omega arith));
       table = subst (λ (l : List (ℕ × ℕ)). IsTable l slots.items) (sym none) (subst (IsTable []) (sym empty) (table_empty 128));

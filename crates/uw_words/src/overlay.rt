@@ -1,5 +1,5 @@
 // Words that are planned for places of a region.
-ghost use Rattle.std.specs.Prelude.{◌≡◌, ◌+◌, ◌-◌, ◌<◌, ◌≤◌, ◌⊎◌, [], length, slice_get, unwrap_or, IfOk, Some};
+ghost use Rattle.std.specs.Prelude.{◌≡◌, ◌+◌, ◌-◌, ◌^◌, ◌<◌, ◌≤◌, ◌⊎◌, [], length, slice_get, unwrap_or, IfOk, Some};
 ghost use Rattle.uw_words.specs.Plans.{planned, region, through, with_put, Names, HasDistinctPlaces};
 
 use crate::ram::Ram;
@@ -12,8 +12,8 @@ use uw_base::Memory;
 // As few slots as a table has: for 63 places they do.
 const FEWEST_SLOTS: usize = 128;
 
-// More places than memory can hold.
-const MOST_PLACES: u64 = 1 << 58;
+// More places than the four bytes of a slot can number.
+const TOO_MANY_PLACES: u64 = 1 << 32;
 
 /// Words that are planned for places of a region and are read in place of its own. Contracts see the planned writes, each
 /// place once with its last word, in the order in which they were first put since the last `clear`, and how many places
@@ -24,7 +24,7 @@ pub struct Overlay {
     writes: Vec<(u64, u64)>,
     // By the slots a place is found among the writes. There are more than twice as many as writes: they grow with these,
     // so that a few writes need few slots, whatever the room is.
-    slots: Vec<u64>,
+    slots: Vec<u32>,
     most_slots: usize,
     // It keeps out most places that are not planned, in one step.
     sieve: [u32; SIEVE_WORDS],
@@ -43,11 +43,13 @@ impl Model for Overlay {
 }
 
 impl Overlay {
-    /// Can name so many places. Takes the memory for all of them.
+    /// Can name so many places. Takes the memory for all of them: 16 bytes for each, and four for each slot, of which there
+    /// are as many as the least power of two from twice the places and 128 on. For 2^32 places or more there is no memory.
     pub fn new(alloc: Global, room: u64) -> Result<Overlay, Memory>
-        ensures { IfOk result (λ overlay. overlay ≡ record { writes = []; room = room }) }
+        ensures empty { IfOk result (λ overlay. overlay ≡ record { writes = []; room = room }) }
+        ensures few { IfOk result (λ overlay. room < 2 ^ 32) }
     {
-        if room >= MOST_PLACES {
+        if room >= TOO_MANY_PLACES {
             return Err(Memory);
         }
         let most_slots = (2 * room as usize + FEWEST_SLOTS).next_power_of_two();
@@ -102,7 +104,7 @@ impl Overlay {
         }
         admit(&mut self.sieve, at);
         let _ = self.writes.push((at, word));
-        self.slots[slot] = self.writes.len() as u64;
+        self.slots[slot] = self.writes.len() as u32;
         if self.slots.len() <= 2 * self.writes.len() {
             let more = (2 * self.slots.len()).min(self.most_slots);
             rebuild(&mut self.slots, more, &self.writes);

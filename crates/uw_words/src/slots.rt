@@ -1,5 +1,6 @@
-// A table of slots by which a place is found among planned writes in constant time.
-ghost use Rattle.std.specs.Prelude.{◌≡◌, ◌+◌, ◌<◌, ◌≤◌, replicate, length, slice_set, vec_capacity, vec_len};
+// A table of slots by which a place is found among planned writes in constant time. A slot has four bytes, since an overlay
+// has several for each place that it can name.
+ghost use Rattle.std.specs.Prelude.{◌≡◌, ◌+◌, ◌^◌, ◌<◌, ◌≤◌, replicate, length, slice_set, vec_capacity, vec_len};
 ghost use Rattle.uw_words.specs.Plans.{HasDistinctPlaces};
 ghost use Rattle.uw_words.specs.Slots.{IsTable, home};
 ghost use Rattle.uw_words.specs.SlotSteps.{Ends};
@@ -17,7 +18,7 @@ fn home_of(slots: usize, at: u64) -> usize
 }
 
 // The slot at which the search for a place ends.
-pub(crate) fn seek(slots: &[u64], plan: &[(u64, u64)], at: u64) -> usize
+pub(crate) fn seek(slots: &[u32], plan: &[(u64, u64)], at: u64) -> usize
     requires table { IsTable plan.now slots.now }
     requires spare { length plan.now < length slots.now }
     ensures { Ends plan.now slots.now at result }
@@ -39,7 +40,7 @@ pub(crate) fn seek(slots: &[u64], plan: &[(u64, u64)], at: u64) -> usize
 }
 
 // Makes so many empty slots.
-pub(crate) fn empty(slots: &mut Vec<u64>, len: usize)
+pub(crate) fn empty(slots: &mut Vec<u32>, len: usize)
     requires { len ≤ vec_capacity slots.old }
     ensures empty { slots.new.items ≡ replicate len 0 }
     ensures capacity { vec_capacity slots.old ≤ vec_capacity slots.new }
@@ -54,9 +55,10 @@ pub(crate) fn empty(slots: &mut Vec<u64>, len: usize)
 }
 
 // Makes a table of so many slots for planned writes.
-pub(crate) fn rebuild(slots: &mut Vec<u64>, len: usize, plan: &[(u64, u64)])
+pub(crate) fn rebuild(slots: &mut Vec<u32>, len: usize, plan: &[(u64, u64)])
     requires within { len ≤ vec_capacity slots.old }
     requires spare { length plan.now < len }
+    requires few { length plan.now < 2 ^ 32 }
     requires distinct { HasDistinctPlaces plan.now }
     ensures table { IsTable plan.now slots.new.items }
     ensures len { vec_len slots.new ≡ len }
@@ -65,6 +67,6 @@ pub(crate) fn rebuild(slots: &mut Vec<u64>, len: usize, plan: &[(u64, u64)])
     empty(slots, len);
     for k in 0..plan.len() {
         let slot = seek(slots, &plan[..k], plan[k].0);
-        slots[slot] = k as u64 + 1;
+        slots[slot] = (k + 1) as u32;
     }
 }

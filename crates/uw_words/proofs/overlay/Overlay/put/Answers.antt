@@ -26,6 +26,7 @@ invariant_of-self c =
     let named = is_named plan inside.slots.items c.args.at c.seek-slot.result c.index.result.now (ends at) (number at) c.if-number-ne0.true in (
       record {
         within = old.within;
+        few = old.few;
         capacity = old.capacity;
         distinct = distinct_set plan c.args.at c.args.word (c.index.result.now - 1) old.distinct named.0 named.1;
         table = table_set plan inside.slots.items c.args.at c.args.word (c.index.result.now - 1) old.table named.1 named.0;
@@ -77,6 +78,7 @@ invariant_of-self-then-len c =
     let more : vec_len c.rebuild.new.slots ≡ min (2 * vec_len c.self.inside.slots) c.self.inside.most_slots = omega (arith, c.rebuild.ensures.len, c.min-more.ensures, c.len-then-len.ensures) in (
       record {
         within = omega (arith, room at, c.self.inside.writes.ok.0, count);
+        few = old.few;
         capacity = omega (arith, old.capacity, c.push.ensures.capacity);
         distinct = subst HasDistinctPlaces (sym (pushed at).0) (distinct_push c.self.inside.writes.items c.args.at c.args.word old.distinct (free at));
         table = subst (λ (l : List (ℕ × ℕ)). IsTable l c.rebuild.new.slots.items) c.deref-then-len.ensures.value c.rebuild.ensures.table;
@@ -98,6 +100,7 @@ invariant_of-self-else-len c =
     let number : c.len.result ≡ length plan + 1 = omega (arith, c.len.ensures, count, c.self.inside.writes.ok.0) in (
       record {
         within = omega (arith, room at, c.self.inside.writes.ok.0, count);
+        few = old.few;
         capacity = omega (arith, old.capacity, c.push.ensures.capacity);
         distinct = subst HasDistinctPlaces (sym (pushed at).0) (distinct_push plan c.args.at c.args.word old.distinct (free at));
         table = subst (λ (l : List (ℕ × ℕ)). IsTable l (set c.self.inside.slots.items c.seek-slot.result c.len.result)) (sym (pushed at).0)
@@ -127,3 +130,13 @@ pub rebuild-requires-clause-distinct : goal.rebuild-requires-clause-distinct
 rebuild-requires-clause-distinct c =
     let at = (goal.at.rebuild-requires-clause-distinct c).After-push in
     subst HasDistinctPlaces (sym (pushed at).0 ∙ sym c.deref-then-len.ensures.value) (distinct_push c.self.inside.writes.items c.args.at c.args.word c.self.invariant.0.distinct (free at))
+
+pub overflow_cast-len : goal.overflow_cast-len
+overflow_cast-len c =
+    let at = (goal.at.overflow_cast-len c).After-push in
+    record { fits = omega (arith, c.len.ensures, (pushed at).1, room at, c.self.inside.writes.ok.0, c.self.invariant.0.few) }
+
+pub rebuild-requires-clause-few : goal.rebuild-requires-clause-few
+rebuild-requires-clause-few c =
+    let at = (goal.at.rebuild-requires-clause-few c).After-push in
+    omega (arith, c.deref-then-len.ensures.len, (pushed at).1, room at, c.self.inside.writes.ok.0, c.self.invariant.0.few)
