@@ -1,5 +1,5 @@
 -- The places of the chains and of their items are apart.
-use Rattle.std.proofs.Common.{◌≡◌, ◌≢◌, ◌⊎◌, inl, inr, ℕ, ◌+◌, ◌%◌, ◌<◌, ◌≤◌, List, [], ◌∷◌, refl, sym, ap, ◌∙◌, subst, arith}
+use Rattle.std.proofs.Common.{◌≡◌, ◌≢◌, ◌⊎◌, inl, inr, ℕ, ◌+◌, ◌-◌, ◌%◌, ◌<◌, ◌≤◌, List, [], ◌∷◌, length, refl, sym, ap, ◌∙◌, subst, arith}
 use Rattle.std.proofs.lemmas.Bool.{cases_eq}
 use Rattle.std.proofs.lemmas.Bool.Decides.{nat_tests}
 use Rattle.uw_words.specs.declared.shape.Shape.{Shape}
@@ -8,6 +8,9 @@ use Rattle.uw_words.specs.Numbers.{IsOneOf}
 use Rattle.uw_words.specs.Parts.{AgreeOn}
 use Rattle.uw_words.specs.Walks.{link_of, item_word, IsWalk}
 use Rattle.uw_words.specs.Records.{HoldsKey}
+use Rattle.uw_words.specs.Texts.{text_words}
+use Rattle.uw_words.proofs.Growth.{in_row}
+use Rattle.uw_words.proofs.Copies.{text_same}
 use Rattle.uw_words.proofs.Links.{same_item, same_link, walk_once, walk_same}
 use Rattle.uw_chains.specs.Chains.{chain_place, key_chain, item_chain, IsChains, with_chain, link_places, place_before, unlink_places, IsChainsPlace, IsChainsKeyPlace}
 
@@ -46,7 +49,13 @@ key_same shape is before now item key same holds = record {
   len = same 6 (omega arith) (omega (arith, is.stride)) ∙ holds.len;
   hash = same 7 (omega arith) (omega (arith, is.stride)) ∙ holds.hash;
   fits = holds.fits;
-  words = λ k short. same (8 + k) (omega arith) (omega (arith, is.stride, holds.fits, short)) ∙ holds.words k short;
+  text = text_same (link_of shape item + 8) key before now
+      (λ at one.
+      let row = in_row (link_of shape item + 8) (text_words (length key)) at one in
+      let place : link_of shape item + (at - link_of shape item) ≡ at = omega (arith, row.0) in
+      subst (λ (p : ℕ). now p ≡ before p) place
+      (same (at - link_of shape item) (omega (arith, row.0)) (omega (arith, row.0, row.1, is.stride, holds.fits))))
+      holds.text;
 }
 
 pub own_chain : (shape : Shape) (reader : ℕ → ℕ) (chains : ℕ → List ℕ) (chain item : ℕ) → IsChains reader shape chains → chain < shape.n_chains → IsOneOf (chains chain) item

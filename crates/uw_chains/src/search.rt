@@ -5,7 +5,8 @@ ghost use Rattle.uw_words.specs.Shapes.{IsShape, shape_words};
 ghost use Rattle.uw_words.specs.Numbers.{IsOneOf};
 ghost use Rattle.uw_words.specs.Parts.{seen};
 ghost use Rattle.uw_words.specs.Walks.{link_of};
-ghost use Rattle.uw_words.specs.Records.{HoldsKey, text_word};
+ghost use Rattle.uw_words.specs.Records.{HoldsKey};
+ghost use Rattle.uw_words.specs.Texts.{HoldsText};
 ghost use Rattle.uw_chains.specs.Chains.{IsChains, HasChains, key_chain};
 ghost use Rattle.uw_chains.specs.ChainSteps.{IsKeyLink};
 
@@ -17,7 +18,7 @@ use uw_words::{Overlay, Ram, Shape, first_word};
 fn has_words(ram: &Ram, over: &Overlay, at: u64, text: &[u8]) -> bool
     requires within { 8 * at + length text.now ≤ 8 * length ram.now }
     requires small { length ram.now < 2 ^ 63 }
-    ensures { IsTrue result ↔ ((k : ℕ) → 8 * k < length text.now → seen over.now ram.now (at + k) ≡ text_word text.now k) }
+    ensures { IsTrue result ↔ HoldsText (seen over.now ram.now) at text.now }
 {
     for k in 0..text.len().div_ceil(8) {
         if over.load(ram, at + k as u64) != first_word(&text[8 * k..]) {

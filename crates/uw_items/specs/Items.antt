@@ -1,12 +1,10 @@
 -- What an item of a region holds: words 3, 4 and 5 are the moment at which it dies, its first block and the length of its value in bytes; words 6 and on are its key; and its value
 -- stands in its blocks ("The Caching framework").
 use Rattle.std.specs.Prelude.{◌≡◌, ℕ, ◌+◌, ◌*◌, ◌<◌, ◌≤◌, List, [], ◌∷◌}
-use Rattle.std.specs.Int.{div_ceil}
 use Rattle.uw_words.specs.declared.shape.Shape.{Shape}
-use Rattle.uw_words.specs.Numbers.{places_from}
 use Rattle.uw_words.specs.Walks.{link_of, item_word}
+use Rattle.uw_words.specs.Texts.{HoldsText, places_of_text, text_at}
 use Rattle.uw_items.specs.declared.records.Fields.{Fields}
-use Rattle.uw_items.specs.Texts.{HoldsText, text_at}
 
 -- the place of a block (own rule)
 abbrev pub block_place : Shape → ℕ → ℕ
@@ -22,7 +20,7 @@ held_key reader shape item = text_at reader (link_of shape item + 8) (item_word 
 
 -- the places of a key of so many bytes: words 6 and 7 of its item, and those of its bytes (own rule)
 abbrev pub key_places : Shape → (item bytes : ℕ) → List ℕ
-key_places shape item bytes = (link_of shape item + 6) ∷ (link_of shape item + 7) ∷ places_from (link_of shape item + 8) (div_ceil bytes 8)
+key_places shape item bytes = (link_of shape item + 6) ∷ (link_of shape item + 7) ∷ places_of_text (link_of shape item + 8) bytes
 
 -- the blocks from one on hold a value (own rule)
 abbrev pub HoldsValue : (ℕ → ℕ) → Shape → (first : ℕ) → List ℕ → Type 0
@@ -34,7 +32,7 @@ held_value reader shape item = text_at reader (block_place shape (item_word read
 
 -- the places of a value of so many bytes (own rule)
 abbrev pub value_places : Shape → (first bytes : ℕ) → List ℕ
-value_places shape first bytes = places_from (block_place shape first) (div_ceil bytes 8)
+value_places shape first bytes = places_of_text (block_place shape first) bytes
 
 -- the item holds these fields (own rule)
 pub record HoldsFields (reader : ℕ → ℕ) (shape : Shape) (item : ℕ) (fields : Fields) : Type 0 where

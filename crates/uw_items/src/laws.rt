@@ -1,11 +1,12 @@
 //! Laws of what items hold and of the free ones. Each is the contract of a function that does nothing.
-ghost use Rattle.std.specs.Prelude.{◌≡◌, ◌<◌, ◌≤◌, ◌+◌, ◌*◌, ◌∷◌, ℕ, List, true, length, slice_index};
-ghost use Rattle.std.specs.Int.{div_ceil};
+ghost use Rattle.std.specs.Prelude.{◌≡◌, ◌<◌, ◌≤◌, ◌+◌, ◌*◌, ◌∷◌, ℕ, List, true, length};
+ghost use Rattle.std.specs.List.{All};
 ghost use Rattle.uw_words.specs.declared.shape.Shape.{Shape};
 ghost use Rattle.uw_words.specs.Shapes.{IsShape};
 ghost use Rattle.uw_words.specs.Numbers.{IsOneOf, IsNoneOf};
 ghost use Rattle.uw_words.specs.Parts.{DependsOn};
 ghost use Rattle.uw_words.specs.Walks.{counted_walk, is_whole_walk};
+ghost use Rattle.uw_words.specs.Texts.{text_words};
 ghost use Rattle.uw_words.specs.Records.{HoldsKey};
 ghost use Rattle.uw_items.specs.declared.records.Fields.{Fields};
 ghost use Rattle.uw_items.specs.Items.{block_place, LieInBlocks, held_key, key_places, HoldsValue, held_value, value_places, HoldsFields, field_places, IsRecordPlace};
@@ -13,14 +14,14 @@ ghost use Rattle.uw_items.specs.FreeList.{IsFreeList, take_places, give_places, 
 
 /// A key that an item holds is the one that is read.
 pub fn a_held_key_is_read()
-    ensures { (shape : Shape) (reader : ℕ → ℕ) (item : ℕ) (key : List ℕ) → ((k : ℕ) → slice_index key k < 256)
+    ensures { (shape : Shape) (reader : ℕ → ℕ) (item : ℕ) (key : List ℕ) → All (λ byte. byte < 256) key
         → HoldsKey reader shape item key → held_key reader shape item ≡ key }
 {}
 
 /// A value that stands in the blocks which an item's fields name is the one that is read.
 pub fn a_held_value_is_read()
     ensures { (shape : Shape) (reader : ℕ → ℕ) (item : ℕ) (fields : Fields) (value : List ℕ)
-        → ((k : ℕ) → slice_index value k < 256) → HoldsFields reader shape item fields → fields.length ≡ length value
+        → All (λ byte. byte < 256) value → HoldsFields reader shape item fields → fields.length ≡ length value
         → HoldsValue reader shape fields.first value → held_value reader shape item ≡ value }
 {}
 
@@ -68,12 +69,12 @@ pub fn field_places_are_apart_from_the_key()
 
 /// A key is written to two words and those of its bytes.
 pub fn key_places_are_few()
-    ensures { (shape : Shape) (item bytes : ℕ) → length (key_places shape item bytes) ≡ 2 + div_ceil bytes 8 }
+    ensures { (shape : Shape) (item bytes : ℕ) → length (key_places shape item bytes) ≡ 2 + text_words bytes }
 {}
 
 /// A value is written to the words of its bytes.
 pub fn value_places_are_few()
-    ensures { (shape : Shape) (first bytes : ℕ) → length (value_places shape first bytes) ≡ div_ceil bytes 8 }
+    ensures { (shape : Shape) (first bytes : ℕ) → length (value_places shape first bytes) ≡ text_words bytes }
 {}
 
 /// The words of items stand behind the chains and before the blocks.

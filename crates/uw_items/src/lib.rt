@@ -5,7 +5,6 @@
 mod free;
 pub mod laws;
 mod records;
-mod texts;
 
 pub use free::{give_free, take_free};
 pub use records::{Fields, fields_of, key_of, put_fields, put_key, put_value, value_of};

@@ -7,10 +7,9 @@ ghost use Rattle.uw_words.specs.Walks.{item_word};
 ghost use Rattle.uw_words.specs.Records.{HoldsKey};
 ghost use Rattle.uw_items.specs.Items.{block_place, LieInBlocks, held_key, key_places, HoldsValue, held_value, value_places, HoldsFields, field_places};
 
-use crate::texts::{put_text, text_at};
 use std::alloc::Global;
 use uw_base::{Bytes, Memory, djb33x};
-use uw_words::{Overlay, Ram, Shape};
+use uw_words::{Overlay, Ram, Shape, put_text, text_at};
 
 /// What an item says of its entry beside the key.
 #[derive(Clone, Copy, Debug, PartialEq, Eq)]

@@ -5,3 +5,4 @@ pub mod Sieves
 pub mod Growth
 pub mod Numbers
 pub mod Links
+pub mod Copies

@@ -4,7 +4,7 @@ use Rattle.std.proofs.lemmas.Bool.Decides.{nat_tests}
 use Rattle.std.proofs.lemmas.Nat.{mul-add-lt, div-mul-add}
 use Rattle.std.proofs.Math.Nat.{mul_comm}
 use Rattle.uw_words.specs.declared.shape.Shape.{Shape}
-use Rattle.uw_words.specs.Shapes.{IsShape}
+use Rattle.uw_words.specs.Shapes.{IsShape, item_head}
 use Rattle.uw_words.specs.Numbers.{IsOneOf}
 use Rattle.uw_words.specs.Walks.{link_of, item_word, IsWalk, counted_walk, is_whole_walk}
 
@@ -15,7 +15,7 @@ module _ (shape : Shape) (is : IsShape shape) where
   pub item_within : (item field : ℕ) → item < shape.n_items → field < shape.stride → link_of shape item + field < shape.blocks
   item_within item field short low = omega (arith, mul-add-lt item shape.stride field shape.n_items short low, mul_comm shape.stride shape.n_items, is.blocks)
 
-  pub link_within : (item field : ℕ) → item < shape.n_items → field < 8 → link_of shape item + field < shape.blocks
+  pub link_within : (item field : ℕ) → item < shape.n_items → field < item_head → link_of shape item + field < shape.blocks
   link_within item field short low = item_within item field short (omega (arith, is.stride))
 
   pub same_item : (i j f g : ℕ) → f < shape.stride → g < shape.stride → link_of shape i + f ≡ link_of shape j + g → i ≡ j
@@ -24,11 +24,11 @@ module _ (shape : Shape) (is : IsShape shape) where
       sym (div-mul-add i shape.stride f low) ∙ ap (λ (n : ℕ). n / shape.stride) inner ∙ div-mul-add j shape.stride g low'
 
   -- words of two items are apart
-  pub items_apart : (i j f g : ℕ) → i ≢ j → f < 8 → g < 8 → link_of shape i + f ≢ link_of shape j + g
+  pub items_apart : (i j f g : ℕ) → i ≢ j → f < item_head → g < item_head → link_of shape i + f ≢ link_of shape j + g
   items_apart i j f g other low low' = λ same. other (same_item i j f g (omega (arith, is.stride)) (omega (arith, is.stride)) same)
 
   -- two words of items are apart where their numbers in an item are
-  pub fields_apart : (i j f g : ℕ) → f ≢ g → f < 8 → g < 8 → link_of shape i + f ≢ link_of shape j + g
+  pub fields_apart : (i j f g : ℕ) → f ≢ g → f < item_head → g < item_head → link_of shape i + f ≢ link_of shape j + g
   fields_apart i j f g other low low' = λ same.
       let item : i ≡ j = same_item i j f g (omega (arith, is.stride)) (omega (arith, is.stride)) same in
       let here : link_of shape i ≡ link_of shape j = ap (link_of shape) item in

@@ -6,4 +6,5 @@ pub mod Shapes
 pub mod Numbers
 pub mod Parts
 pub mod Walks
+pub mod Texts
 pub mod Records

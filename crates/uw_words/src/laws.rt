@@ -1,10 +1,12 @@
-//! Laws of planned words and of walks along links. Each is the contract of a function that does nothing.
-ghost use Rattle.std.specs.Prelude.{◌≡◌, ◌≢◌, ◌+◌, ◌<◌, ◌≤◌, ◌↔◌, ℕ, List, ◌++◌, true, length};
+//! Laws of planned words, of texts as words, and of walks along links. Each is the contract of a function that does nothing.
+ghost use Rattle.std.specs.Prelude.{◌≡◌, ◌≢◌, ◌+◌, ◌*◌, ◌<◌, ◌≤◌, ◌↔◌, ℕ, List, ◌++◌, true, length};
+ghost use Rattle.std.specs.List.{All};
 ghost use Rattle.uw_words.specs.declared.shape.Shape.{Shape};
 ghost use Rattle.uw_words.specs.Plans.{Plan, through, with_put};
 ghost use Rattle.uw_words.specs.Shapes.{IsShape};
 ghost use Rattle.uw_words.specs.Numbers.{IsOneOf, IsNoneOf, places_from};
 ghost use Rattle.uw_words.specs.Parts.{seen, DependsOn, with_places, HasRoom, GrewAt};
+ghost use Rattle.uw_words.specs.Texts.{text_word, places_of_text, HoldsText, text_at};
 ghost use Rattle.uw_words.specs.Walks.{link_of, IsWalk, counted_walk, is_whole_walk};
 
 /// A word that is put is read at its place.
@@ -49,6 +51,29 @@ pub fn growth_leaves_the_other_room()
 /// Places in a row are those from the first one on, as many as there are.
 pub fn places_in_a_row()
     ensures { (first count at : ℕ) → IsOneOf (places_from first count) at ↔ ((first ≤ at) × (at < first + count)) }
+{}
+
+/// The text that words hold is of bytes.
+pub fn the_text_that_words_hold_is_of_bytes()
+    ensures { (reader : ℕ → ℕ) (at bytes : ℕ) → All (λ byte. byte < 256) (text_at reader at bytes) }
+{}
+
+/// Texts of bytes are told apart by their words: those of one length and with the same words are one text.
+pub fn texts_are_told_apart_by_their_words()
+    ensures { (text other : List ℕ) → All (λ byte. byte < 256) text → All (λ byte. byte < 256) other
+        → length text ≡ length other → ((k : ℕ) → 8 * k < length text → text_word text k ≡ text_word other k) → text ≡ other }
+{}
+
+/// A text of bytes whose words are held is the one that is read.
+pub fn a_held_text_is_read()
+    ensures { (reader : ℕ → ℕ) (at : ℕ) (text : List ℕ) → All (λ byte. byte < 256) text → HoldsText reader at text
+        → text_at reader at (length text) ≡ text }
+{}
+
+/// Whether words hold a text depends on the places of that text alone.
+pub fn a_text_depends_on_its_places()
+    ensures { (at : ℕ) (text : List ℕ)
+        → DependsOn (λ reader. HoldsText reader at text) (IsOneOf (places_of_text at (length text))) }
 {}
 
 /// Whether a list is a walk depends on the links of its items along the field alone.

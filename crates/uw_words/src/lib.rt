@@ -12,5 +12,5 @@ mod texts;
 
 pub use overlay::Overlay;
 pub use ram::Ram;
-pub use shape::Shape;
-pub use texts::first_word;
+pub use shape::{ITEM_HEAD, Shape};
+pub use texts::{first_word, put_text, text_at};

@@ -1,7 +1,10 @@
 // Where the parts of a cache's region stand.
 ghost use Rattle.std.specs.Prelude.{◌≡◌, ◌+◌, ◌<◌, ◌≤◌, ◌↔◌, IsNone, IfSome};
-ghost use Rattle.uw_words.specs.Shapes.{IsShape};
+ghost use Rattle.uw_words.specs.Shapes.{IsShape, item_head};
 ghost use Rattle.uw_words.specs.Walks.{link_of, IsLink};
+
+/// How many fixed words an item has: the bytes of its key stand behind them.
+pub const ITEM_HEAD: u64 = 8;
 
 /// The places of a cache's region, by word numbers from 0, and the sizes by which its parts are reckoned.
 #[derive(Clone, Copy, Debug, PartialEq, Eq)]
@@ -40,7 +43,7 @@ impl Shape {
         requires shape { IsShape self.now }
         requires item { item < self.now.n_items }
         ensures link { result ≡ link_of self.now item }
-        ensures within { result + 8 ≤ self.now.blocks }
+        ensures within { result + item_head ≤ self.now.blocks }
     {
         self.items + item * self.stride
     }

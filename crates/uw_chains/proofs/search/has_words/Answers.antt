@@ -2,7 +2,7 @@ use Rattle.std.proofs.Common.{◌≡◌, ℕ, ◌+◌, ◌*◌, below_more, sym,
 use Rattle.std.specs.Int.{from_le_bytes, w64}
 use Rattle.std.proofs.lemmas.List.{take_rest}
 use Rattle.uw_words.specs.Parts.{seen}
-use Rattle.uw_words.specs.Records.{text_word}
+use Rattle.uw_words.specs.Texts.{text_word}
 use Rattle.uw_chains.proofs.search.has_words.Goals as goal
 
 pub loop-k-preserved : goal.loop-k-preserved

@@ -1,6 +1,6 @@
 use Rattle.std.proofs.Common.{◌≡◌, ℕ, ◌+◌, ◌<◌}
 use Rattle.uw_words.specs.Parts.{seen}
-use Rattle.uw_words.specs.Records.{text_word}
+use Rattle.uw_words.specs.Texts.{text_word}
 use Rattle.uw_chains.proofs.search.has_words.Given as goal
 
 abbrev pub invariant-loop-k : goal.invariant-loop-k

@@ -3,8 +3,8 @@ use Rattle.std.specs.Int.{from_le_bytes, w64, div_ceil}
 use Rattle.std.proofs.lemmas.List.{take_rest}
 use Rattle.uw_words.specs.Numbers.{places_from}
 use Rattle.uw_words.specs.Parts.{GrewAt}
-use Rattle.uw_items.proofs.Copies.{Putting, putting_start, putting_next, putting_room, putting_all}
-use Rattle.uw_items.proofs.texts.put_text.Goals as goal
+use Rattle.uw_words.proofs.Copies.{Putting, putting_start, putting_next, putting_room, putting_all}
+use Rattle.uw_words.proofs.texts.put_text.Goals as goal
 
 pub loop-k-init : goal.loop-k-init
 loop-k-init c = putting_start c.args.over.now c.args.at c.args.text.now

@@ -1,9 +1,9 @@
 use Rattle.std.proofs.Common.{ℕ, List, ◌++◌, sym, ap, ◌∙◌}
 use Rattle.std.specs.Int.{w64, to_le_bytes}
 use Rattle.uw_words.specs.Plans.{region}
-use Rattle.uw_items.specs.Texts.{word_bytes}
-use Rattle.uw_items.proofs.Copies.{words_more}
-use Rattle.uw_items.proofs.texts.text_at.Goals as goal
+use Rattle.uw_words.specs.Texts.{word_bytes}
+use Rattle.uw_words.proofs.Copies.{words_more}
+use Rattle.uw_words.proofs.texts.text_at.Goals as goal
 
 pub loop-k-preserved : goal.loop-k-preserved
 loop-k-preserved c =

@@ -1,16 +1,17 @@
 -- Texts as words: how they are put, and how they are read back.
-use Rattle.std.proofs.Common.{◌≡◌, ◌⊎◌, inl, inr, ℕ, zero, suc, ◌+◌, ◌*◌, ◌-◌, ◌<◌, ◌≤◌, List, [], ◌∷◌, ◌++◌, length, take, drop, get_or, replicate, refl, sym, ap, ◌∙◌, subst, arith, append_assoc, length-append, length-drop}
-use Rattle.std.specs.Int.{w64, to_le_bytes, from_le_bytes, div_ceil}
+use Rattle.std.proofs.Common.{◌≡◌, ◌⊎◌, inl, inr, ℕ, zero, suc, ◌+◌, ◌*◌, ◌-◌, ◌/◌, ◌^◌, ◌<◌, ◌≤◌, List, [], ◌∷◌, ◌++◌, length, take, drop, get_or, replicate, refl, sym, ap, ◌∙◌, subst, arith, append_assoc, length-append, length-drop}
+use Rattle.std.specs.Int.{w64, byte_at, bytes_low_first, to_le_bytes, from_le_bytes, div_ceil}
+use Rattle.std.specs.List.{All}
 use Rattle.std.proofs.lemmas.Bool.{cases_eq, cases_lt}
-use Rattle.std.proofs.lemmas.Nat.{le_bytes_8}
+use Rattle.std.proofs.lemmas.Nat.{le_bytes_8, mod_below}
+use Rattle.std.proofs.lemmas.List.Elements.{All-nil, All-cons, All-append, All-take}
 use Rattle.std.proofs.lemmas.List.{append-nil, length-take-le, get_or-take, get_or-drop, take-append-le, take-take, take-append-drop, drop-drop}
 use Rattle.std.proofs.Math.Seq.{take-append_seam, take-append-add}
 use Rattle.uw_words.specs.Plans.{Plan, region, Names}
-use Rattle.uw_words.specs.Numbers.{places_from}
-use Rattle.uw_words.specs.Parts.{seen, HasRoom, GrewAt}
-use Rattle.uw_words.specs.Records.{text_word}
-use Rattle.uw_words.proofs.Growth.{put_on, grew_none, grew_put, grew_then, room_now, room_then, read_put, read_other, places_split}
-use Rattle.uw_items.specs.Texts.{HoldsText, word_bytes, text_at}
+use Rattle.uw_words.specs.Numbers.{IsOneOf, places_from}
+use Rattle.uw_words.specs.Parts.{seen, AgreeOn, HasRoom, GrewAt}
+use Rattle.uw_words.proofs.Growth.{put_on, grew_none, grew_put, grew_then, room_now, room_then, read_put, read_other, row_has, places_split}
+use Rattle.uw_words.specs.Texts.{text_word, text_words, places_of_text, HoldsText, word_bytes, text_at}
 
 -- so many words of a text are put
 pub record Putting (plan now : Plan) (at : ℕ) (text : List ℕ) (count : ℕ) : Type 0 where
@@ -157,3 +158,48 @@ read_back reader (suc count) at (first ∷ text) small fits holds =
 
 pub text_back : (reader : ℕ → ℕ) (at : ℕ) (text : List ℕ) → ((k : ℕ) → get_or text k 0 < 256) → HoldsText reader at text → text_at reader at (length text) ≡ text
 text_back reader at text small holds = read_back reader (div_ceil (length text) 8) at text small (omega arith) holds
+
+-- texts of bytes
+bytes_small : (text : List ℕ) → All (λ byte. byte < 256) text → (k : ℕ) → get_or text k 0 < 256
+bytes_small text all k = elim (cases_lt k (length text)) [
+  | inl short ↦ all k 0 short
+  | inr long ↦ omega (arith, past text k long)
+]
+
+pub held_text : (reader : ℕ → ℕ) (at : ℕ) (text : List ℕ) → All (λ byte. byte < 256) text → HoldsText reader at text
+    → text_at reader at (length text) ≡ text
+held_text reader at text all holds = text_back reader at text (bytes_small text all) holds
+
+pub told_apart : (text other : List ℕ) → All (λ byte. byte < 256) text → All (λ byte. byte < 256) other → length text ≡ length other
+    → ((k : ℕ) → 8 * k < length text → text_word text k ≡ text_word other k) → text ≡ other
+told_apart text other all all' len same =
+    sym (held_text (text_word text) 0 text all (λ k short. ap (text_word text) (start k)))
+    ∙ ap (text_at (text_word text) 0) len
+    ∙ held_text (text_word text) 0 other all' (λ k short. ap (text_word text) (start k) ∙ same k (omega (arith, len, short)))
+  where
+    start : (k : ℕ) → 0 + k ≡ k
+    start k = omega arith
+
+low_bytes : (i count n : ℕ) → All (λ byte. byte < 256) (bytes_low_first i count n)
+low_bytes i zero n = All-nil (λ byte. byte < 256)
+low_bytes i (suc count) n = All-cons (λ byte. byte < 256) (byte_at i n) (bytes_low_first (suc i) count n) (below i) (low_bytes (suc i) count n)
+  where
+    below : (i : ℕ) → byte_at i n < 256
+    below zero = omega arith
+    below (suc i) = mod_below (n / 256 ^ suc i) 256 (omega arith)
+
+words_of_bytes : (reader : ℕ → ℕ) (at count : ℕ) → All (λ byte. byte < 256) (word_bytes reader at count)
+words_of_bytes reader at zero = All-nil (λ byte. byte < 256)
+words_of_bytes reader at (suc count) =
+    All-append (λ byte. byte < 256) (to_le_bytes w64 (reader at)) (word_bytes reader (at + 1) count) (low_bytes 0 8 (reader at))
+    (words_of_bytes reader (at + 1) count)
+
+pub text_of_bytes : (reader : ℕ → ℕ) (at bytes : ℕ) → All (λ byte. byte < 256) (text_at reader at bytes)
+text_of_bytes reader at bytes =
+    All-take (λ byte. byte < 256) bytes (word_bytes reader at (text_words bytes)) (words_of_bytes reader at (text_words bytes))
+
+-- on what a held text depends
+pub text_same : (at : ℕ) (text : List ℕ) (before now : ℕ → ℕ) → AgreeOn (IsOneOf (places_of_text at (length text))) before now
+    → HoldsText before at text → HoldsText now at text
+text_same at text before now agree holds k short =
+    agree (at + k) (row_has at (text_words (length text)) (at + k) (omega arith) (omega (arith, short))) ∙ holds k short
