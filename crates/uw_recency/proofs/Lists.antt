@@ -7,10 +7,10 @@ use Rattle.uw_words.specs.Shapes.{IsShape}
 use Rattle.uw_words.specs.Numbers.{IsOneOf, IsNoneOf, AreDistinct, without_number}
 use Rattle.uw_words.specs.Parts.{AgreeOn}
 use Rattle.uw_words.specs.Walks.{link_of, item_word, IsWalk, counted_walk, is_whole_walk}
-use Rattle.uw_words.proofs.Links.{link_above, walk_same, walk_short, counted_is}
-use Rattle.uw_words.proofs.Numbers.{distinct_without, distinct_length}
+use Rattle.uw_words.proofs.Links.{walk_same, walk_short, counted_is}
+use Rattle.uw_words.proofs.Numbers.{distinct_without, distinct_length, one_of_without}
 use Rattle.uw_words.proofs.Growth.{with_puts, with_puts-other, with_puts-first}
-use Rattle.uw_recency.specs.Recency.{AreLinkedBack, IsRecency, IsRecencyPlace, last_of, next_of, forward_place, backward_place, front_places, out_places, first_without}
+use Rattle.uw_recency.specs.Recency.{AreLinkedBack, IsRecency, IsRecencyPlace, last_of, next_of, forward_place, backward_place, front_places, out_places, link_of_first, to_front_places}
 use Rattle.uw_recency.proofs.Nodes.{node_link, forward_of, backward_of, IsLinked, linked_from, walk_of_linked, IsNodeOf, first_node, first_in, IsNode, first_link, both_apart, forward_is, backward_is, linked_once, front_linked, Between, between, backward_apart, forward_apart}
 
 pub linked_of : (reader : ℕ → ℕ) (shape : Shape) (items : List ℕ) → IsRecency reader shape items → IsLinked reader shape 0 items
@@ -81,40 +81,14 @@ module _ (shape : Shape) (shaped : IsShape shape) (before now : ℕ → ℕ) (it
       (λ at a b. read at ∙ with_puts-other before (out_puts forward backward newer older) at ((λ same. a (sym same ∙ ahead)), ((λ same. b (sym same ∙ back)), tt))))
       (distinct_without items item is.distinct)
 
--- the first link once an item has left the list
-pub first_left : (shape : Shape) → IsShape shape → (before now : ℕ → ℕ) (items : List ℕ) (item : ℕ) → IsRecency before shape items → IsOneOf items item
-    → IsRecency now shape (without_number items item) → now (shape.head + 6) ≡ first_without before shape item
-first_left shape shaped before now [] item is one left = absurd one
-first_left shape shaped before now (first ∷ items) item is one left = elim (cases_eq first item) [
-  | inl same ↦
-      let rest : without_number (first ∷ items) item ≡ items = grind (arith, nat_tests) in
-      let none : item_word before shape item 1 ≡ 0 = subst (λ (i : ℕ). item_word before shape i 1 ≡ 0) same is.back.0 in
-      let next : item_word before shape item 2 ≡ node_link shape (first_node items) =
-      subst (λ (i : ℕ). item_word before shape i 2 ≡ node_link shape (first_node items)) same (first_link before shape (suc first) items (linked_of before shape (first ∷ items) is).3) in
-      now_first (without_number (first ∷ items) item) left ∙ ap (λ (l : List ℕ). node_link shape (first_node l)) rest ∙ sym next
-      ∙ sym (taken none)
-  | inr other ↦
-      let rest : without_number (first ∷ items) item ≡ first ∷ without_number items item = grind (arith, nat_tests) in
-      let linked = between shape shaped before (suc first) items item (linked_of before shape (first ∷ items) is).3 is.distinct.1 is.distinct.0
-      (elim one [ inl here ↦ absurd (other here) | inr later ↦ later ]) in
-      let some : item_word before shape item 1 ≢ 0 = λ none. last_some linked.last linked.last_in (sym linked.back ∙ none) in
-      now_first (without_number (first ∷ items) item) left ∙ ap (λ (l : List ℕ). node_link shape (first_node l)) rest ∙ sym is.walk.0
-      ∙ sym (stays some)
-]
+-- the first link of a list
+pub front_link : (shape : Shape) (reader : ℕ → ℕ) (items : List ℕ) → IsRecency reader shape items
+    → reader (shape.head + 6) ≡ link_of_first shape items
+front_link shape reader items is = first_link reader shape 0 items (linked_of reader shape items is) ∙ node_first items
   where
-    now_first : (others : List ℕ) → IsRecency now shape others → now (shape.head + 6) ≡ node_link shape (first_node others)
-    now_first others now_is = first_link now shape 0 others (linked_of now shape others now_is)
-
-    taken : item_word before shape item 1 ≡ 0 → first_without before shape item ≡ item_word before shape item 2
-    taken none = grind (arith, nat_tests)
-
-    stays : item_word before shape item 1 ≢ 0 → first_without before shape item ≡ before (shape.head + 6)
-    stays some = grind (arith, nat_tests)
-
-    last_some : (last : ℕ) → IsNodeOf (suc first) items last → node_link shape last ≢ 0
-    last_some zero (inl same) = λ none. absurd (omega (arith, same))
-    last_some zero (inr at) = λ none. absurd (omega (arith, at.1.1))
-    last_some (suc i) at = λ none. omega (arith, link_above shape shaped i, none)
+    node_first : (items : List ℕ) → node_link shape (first_node items) ≡ link_of_first shape items
+    node_first [] = refl
+    node_first (item ∷ items) = refl
 
 -- the item of a node
 abbrev pub node_item : ℕ → Option ℕ
@@ -214,6 +188,29 @@ out_own shape reader items item at shaped is one (inr (inl here)) =
     let linked = between_of shape shaped reader items item is one in
     backward_own shape items linked.next at linked.next_in (sym (ap (backward_place shape) linked.ahead ∙ backward_is shape shaped linked.next) ∙ here)
 out_own shape reader items item at shaped is one (inr (inr none)) = absurd none
+
+-- the first of some of the items
+first_of : (items some : List ℕ) → ((item : ℕ) → IsOneOf some item → IsOneOf items item) → IsNodeOf 0 items (first_node some)
+first_of items [] among = inl refl
+first_of items (first ∷ some) among = inr (first, (among first (inl refl), refl))
+
+pub to_front_own : (shape : Shape) (reader : ℕ → ℕ) (items : List ℕ) (item at : ℕ) → IsShape shape → IsRecency reader shape items → IsOneOf items item
+    → IsOneOf (to_front_places reader shape items item) at → IsRecencyPlace shape items at
+to_front_own shape reader items item at shaped is one (inl here) = out_own shape reader items item at shaped is one (inl here)
+to_front_own shape reader items item at shaped is one (inr (inl here)) = out_own shape reader items item at shaped is one (inr (inl here))
+to_front_own shape reader items item at shaped is one (inr (inr (inl here))) = inr (inr (item, (one, inl (sym here))))
+to_front_own shape reader items item at shaped is one (inr (inr (inr (inl here)))) = inr (inr (item, (one, inr (sym here))))
+to_front_own shape reader items item at shaped is one (inr (inr (inr (inr (inl here))))) =
+    backward_own shape items (first_node others) at (first_of items others (λ other among. one_of_without items item other among)) (sym (behind others) ∙ here)
+  where
+    others : List ℕ
+    others = without_number items item
+
+    behind : (list : List ℕ) → backward_place shape (link_of_first shape list) ≡ backward_of shape (first_node list)
+    behind [] = backward_is shape shaped 0
+    behind (first ∷ list) = backward_is shape shaped (suc first)
+to_front_own shape reader items item at shaped is one (inr (inr (inr (inr (inr (inl here)))))) = inl (sym here)
+to_front_own shape reader items item at shaped is one (inr (inr (inr (inr (inr (inr none)))))) = absurd none
 
 pub counted_list : (shape : Shape) (reader : ℕ → ℕ) (items : List ℕ) → IsShape shape → IsRecency reader shape items
     → (counted_walk reader shape (reader (shape.head + 6)) 2 shape.n_items ≡ items) × (is_whole_walk reader (reader (shape.head + 6)) 2 shape.n_items ≡ true)

@@ -2,7 +2,7 @@
 -- them; an item's words 1 and 2 are the links of the item before it and of the one after it (own rule).
 use Rattle.std.specs.Prelude.{◌≡◌, ◌⊎◌, ℕ, ◌+◌, Option, Some, None, List, [], ◌∷◌, ◌++◌, slice_get, if◌then◌else◌, ◌==◌}
 use Rattle.uw_words.specs.declared.shape.Shape.{Shape}
-use Rattle.uw_words.specs.Numbers.{IsOneOf, IsNoneOf, AreDistinct}
+use Rattle.uw_words.specs.Numbers.{IsOneOf, IsNoneOf, AreDistinct, without_number}
 use Rattle.uw_words.specs.Walks.{link_of, item_word, IsWalk}
 
 -- each item has the link of the item before it, the first one the given link, and header word 7 is the link of the last one
@@ -55,13 +55,15 @@ front_places shape first item = (link_of shape item + 1) ∷ (link_of shape item
 abbrev pub out_places : (ℕ → ℕ) → Shape → ℕ → List ℕ
 out_places reader shape item = forward_place shape (item_word reader shape item 1) ∷ backward_place shape (item_word reader shape item 2) ∷ []
 
--- the link of the first item once this one has left the list
-abbrev pub first_without : (ℕ → ℕ) → Shape → ℕ → ℕ
-first_without reader shape item = if item_word reader shape item 1 == 0 then item_word reader shape item 2 else reader (shape.head + 6)
+-- the link of the first of the items, 0 where there is none
+abbrev pub link_of_first : Shape → List ℕ → ℕ
+link_of_first shape [] = 0
+link_of_first shape (item ∷ items) = link_of shape item
 
--- the places that are written where an item leaves the list and comes before the first one
-abbrev pub to_front_places : (ℕ → ℕ) → Shape → ℕ → List ℕ
-to_front_places reader shape item = out_places reader shape item ++ front_places shape (first_without reader shape item) item
+-- the places that are written where one of the items leaves the list and comes before the first of the others
+abbrev pub to_front_places : (ℕ → ℕ) → Shape → List ℕ → ℕ → List ℕ
+to_front_places reader shape items item =
+    out_places reader shape item ++ front_places shape (link_of_first shape (without_number items item)) item
 
 -- the places on which the recency list depends: header words 6 and 7, and words 1 and 2 of its items
 abbrev pub IsRecencyPlace : Shape → List ℕ → ℕ → Type 0

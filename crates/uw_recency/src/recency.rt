@@ -72,10 +72,12 @@ pub fn to_front(ram: &Ram, over: &mut Overlay, shape: &Shape, item: u64)
     requires region { length ram.now ≡ shape_words shape.now }
     requires item { item < shape.now.n_items }
     requires listed { IsRecent (seen over.old ram.now) shape.now item }
-    requires room { HasRoom over.old (to_front_places (seen over.old ram.now) shape.now item) }
+    requires room { (items : List ℕ) → IsRecency (seen over.old ram.now) shape.now items
+        → HasRoom over.old (to_front_places (seen over.old ram.now) shape.now items item) }
     ensures list { (items : List ℕ) → IsRecency (seen over.old ram.now) shape.now items → IsOneOf items item
         → IsRecency (seen over.new ram.now) shape.now (item ∷ without_number items item) }
-    ensures grew { GrewAt (to_front_places (seen over.old ram.now) shape.now item) over.old over.new }
+    ensures grew { (items : List ℕ) → IsRecency (seen over.old ram.now) shape.now items
+        → GrewAt (to_front_places (seen over.old ram.now) shape.now items item) over.old over.new }
 {
     take_out(ram, over, shape, item);
     push_front(ram, over, shape, item);

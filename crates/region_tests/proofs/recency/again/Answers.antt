@@ -5,4 +5,5 @@ use Rattle.uw_recency.specs.Recency.{to_front_places}
 use Rattle.region_tests.proofs.recency.again.Goals as goal
 
 pub to_front-requires-clause-room : goal.to_front-requires-clause-room
-to_front-requires-clause-room g c = spare_room c.args.over.now (to_front_places (seen c.args.over.now c.args.ram.now) c.args.shape.now c.args.item) (omega arith)
+to_front-requires-clause-room g c = λ items is.
+    spare_room c.args.over.now (to_front_places (seen c.args.over.now c.args.ram.now) c.args.shape.now items c.args.item) (omega arith)
