@@ -3,7 +3,7 @@ use Rattle.std.proofs.Common.{◌≡◌, ◌≢◌, ◌⊎◌, inl, inr, ℕ, �
 use Rattle.std.proofs.lemmas.Bool.{cases_eq}
 use Rattle.std.proofs.lemmas.Bool.Decides.{nat_tests}
 use Rattle.uw_words.specs.declared.shape.Shape.{Shape}
-use Rattle.uw_words.specs.Shapes.{IsShape}
+use Rattle.uw_words.specs.Shapes.{IsShape, item_head}
 use Rattle.uw_words.specs.Numbers.{IsOneOf}
 use Rattle.uw_words.specs.Parts.{AgreeOn}
 use Rattle.uw_words.specs.Walks.{link_of, item_word, IsWalk}
@@ -49,9 +49,9 @@ key_same shape is before now item key same holds = record {
   len = same 6 (omega arith) (omega (arith, is.stride)) ∙ holds.len;
   hash = same 7 (omega arith) (omega (arith, is.stride)) ∙ holds.hash;
   fits = holds.fits;
-  text = text_same (link_of shape item + 8) key before now
+  text = text_same (link_of shape item + item_head) key before now
       (λ at one.
-      let row = in_row (link_of shape item + 8) (text_words (length key)) at one in
+      let row = in_row (link_of shape item + item_head) (text_words (length key)) at one in
       let place : link_of shape item + (at - link_of shape item) ≡ at = omega (arith, row.0) in
       subst (λ (p : ℕ). now p ≡ before p) place
       (same (at - link_of shape item) (omega (arith, row.0)) (omega (arith, row.0, row.1, is.stride, holds.fits))))

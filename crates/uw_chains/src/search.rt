@@ -12,7 +12,7 @@ ghost use Rattle.uw_chains.specs.ChainSteps.{IsKeyLink};
 
 use crate::chains::chain_place;
 use uw_base::djb33x;
-use uw_words::{Overlay, Ram, Shape, first_word};
+use uw_words::{ITEM_HEAD, Overlay, Ram, Shape, first_word};
 
 // Whether the words from a place on are those of a text.
 fn has_words(ram: &Ram, over: &Overlay, at: u64, text: &[u8]) -> bool
@@ -43,7 +43,7 @@ fn holds_key(ram: &Ram, over: &Overlay, shape: &Shape, link: u64, key: &[u8], ha
     if over.load(ram, link + 6) != key.len() as u64 {
         return false;
     }
-    has_words(ram, over, link + 8, key)
+    has_words(ram, over, link + ITEM_HEAD, key)
 }
 
 /// The item that holds a key, none where no item of the key's chain does.

@@ -3,7 +3,7 @@ use Rattle.std.proofs.Common.{◌≡◌, inl, inr, ℕ, ◌+◌, ◌*◌, ◌-�
 use Rattle.std.specs.List.{All}
 use Rattle.uw_base.specs.Numbers.{djb33x_of}
 use Rattle.uw_words.specs.declared.shape.Shape.{Shape}
-use Rattle.uw_words.specs.Shapes.{IsShape}
+use Rattle.uw_words.specs.Shapes.{IsShape, item_head}
 use Rattle.uw_words.specs.Plans.{Plan, region}
 use Rattle.uw_words.specs.Numbers.{IsOneOf, IsNoneOf}
 use Rattle.uw_words.specs.Parts.{seen, AgreeOn, HasRoom, GrewAt}
@@ -63,24 +63,24 @@ module _ (shape : Shape) (plan one two now : Plan) (item link x y z : ℕ) (link
 
 -- the words of a key are put
 module _ (shape : Shape) (plan one two now : Plan) (item link hash : ℕ) (key : List ℕ) (link_is : link ≡ link_of shape item) where
-  key_are : key_places shape item (length key) ≡ (link + 6) ∷ (link + 7) ∷ places_of_text (link + 8) (length key)
-  key_are = ap (λ (l : ℕ). (l + 6) ∷ (l + 7) ∷ places_of_text (l + 8) (length key)) (sym link_is)
+  key_are : key_places shape item (length key) ≡ (link + 6) ∷ (link + 7) ∷ places_of_text (link + item_head) (length key)
+  key_are = ap (λ (l : ℕ). (l + 6) ∷ (l + 7) ∷ places_of_text (l + item_head) (length key)) (sym link_is)
 
-  pub key_room : HasRoom plan (key_places shape item (length key)) → HasRoom plan ((link + 6) ∷ (link + 7) ∷ places_of_text (link + 8) (length key))
+  pub key_room : HasRoom plan (key_places shape item (length key)) → HasRoom plan ((link + 6) ∷ (link + 7) ∷ places_of_text (link + item_head) (length key))
   key_room room = subst (HasRoom plan) key_are room
 
   module _ (put_one : one ≡ put_on plan (link + 6) (length key)) (put_two : two ≡ put_on one (link + 7) hash)
-      (grew : GrewAt (places_of_text (link + 8) (length key)) two now) where
+      (grew : GrewAt (places_of_text (link + item_head) (length key)) two now) where
     pub key_grew : GrewAt (key_places shape item (length key)) plan now
     key_grew =
         let all : two ≡ puts_on plan ((link + 6, length key) ∷ (link + 7, hash) ∷ []) = put_two ∙ ap (λ (p : Plan). put_on p (link + 7) hash) put_one in
         subst (λ (places : List ℕ). GrewAt places plan now) (sym key_are)
-        (grew_then ((link + 6) ∷ (link + 7) ∷ []) (places_of_text (link + 8) (length key)) plan two now
+        (grew_then ((link + 6) ∷ (link + 7) ∷ []) (places_of_text (link + item_head) (length key)) plan two now
         (subst (GrewAt ((link + 6) ∷ (link + 7) ∷ []) plan) (sym all) (grew_puts plan ((link + 6, length key) ∷ (link + 7, hash) ∷ []))) grew)
 
     len_read : (words : List ℕ) → seen now words (link + 6) ≡ length key
     len_read words =
-        read_grown (places_of_text (link + 8) (length key)) two now words (link + 6) grew (none_before (link + 8) (text_words (length key)) (link + 6) (omega arith))
+        read_grown (places_of_text (link + item_head) (length key)) two now words (link + 6) grew (none_before (link + item_head) (text_words (length key)) (link + 6) (omega arith))
         ∙ ap (λ (p : Plan). seen p words (link + 6)) put_two
         ∙ read_other one.writes (region words) (link + 7) hash (link + 6) (λ same. absurd (omega (arith, same)))
         ∙ ap (λ (p : Plan). seen p words (link + 6)) put_one
@@ -88,23 +88,23 @@ module _ (shape : Shape) (plan one two now : Plan) (item link hash : ℕ) (key :
 
     hash_read : (words : List ℕ) → seen now words (link + 7) ≡ hash
     hash_read words =
-        read_grown (places_of_text (link + 8) (length key)) two now words (link + 7) grew (none_before (link + 8) (text_words (length key)) (link + 7) (omega arith))
+        read_grown (places_of_text (link + item_head) (length key)) two now words (link + 7) grew (none_before (link + item_head) (text_words (length key)) (link + 7) (omega arith))
         ∙ ap (λ (p : Plan). seen p words (link + 7)) put_two
         ∙ read_put one.writes (region words) (link + 7) hash
 
-    pub key_holds : hash ≡ djb33x_of key → length key ≤ 8 * shape.key_words → ((words : List ℕ) → HoldsText (seen now words) (link + 8) key) → (words : List ℕ)
+    pub key_holds : hash ≡ djb33x_of key → length key ≤ 8 * shape.key_words → ((words : List ℕ) → HoldsText (seen now words) (link + item_head) key) → (words : List ℕ)
         → HoldsKey (seen now words) shape item key
     key_holds hash_is fits holds words = record {
       len = ap (λ (l : ℕ). seen now words (l + 6)) (sym link_is) ∙ len_read words;
       hash = ap (λ (l : ℕ). seen now words (l + 7)) (sym link_is) ∙ hash_read words ∙ hash_is;
       fits = fits;
-      text = subst (λ (l : ℕ). HoldsText (seen now words) (l + 8) key) link_is (holds words);
+      text = subst (λ (l : ℕ). HoldsText (seen now words) (l + item_head) key) link_is (holds words);
     }
 
 -- what is read back
 pub key_back : (shape : Shape) (reader : ℕ → ℕ) (item : ℕ) (key : List ℕ) → All (λ byte. byte < 256) key → HoldsKey reader shape item key → held_key reader shape item ≡ key
 key_back shape reader item key small holds =
-    ap (text_at reader (link_of shape item + 8)) holds.len ∙ held_text reader (link_of shape item + 8) key small holds.text
+    ap (text_at reader (link_of shape item + item_head)) holds.len ∙ held_text reader (link_of shape item + item_head) key small holds.text
 
 pub value_back : (shape : Shape) (reader : ℕ → ℕ) (item : ℕ) (fields : Fields) (value : List ℕ) → All (λ byte. byte < 256) value → HoldsFields reader shape item fields
     → fields.length ≡ length value → HoldsValue reader shape fields.first value → held_value reader shape item ≡ value
@@ -120,7 +120,7 @@ key_same shape item key before now agree holds = record {
   len = agree (link_of shape item + 6) (inl refl) ∙ holds.len;
   hash = agree (link_of shape item + 7) (inr (inl refl)) ∙ holds.hash;
   fits = holds.fits;
-  text = text_same (link_of shape item + 8) key before now (λ at one. agree at (inr (inr one))) holds.text;
+  text = text_same (link_of shape item + item_head) key before now (λ at one. agree at (inr (inr one))) holds.text;
 }
 
 pub value_same : (shape : Shape) (first : ℕ) (value : List ℕ) (before now : ℕ → ℕ) → AgreeOn (IsOneOf (value_places shape first (length value))) before now → HoldsValue before shape first value
@@ -132,7 +132,7 @@ pub key_own : (shape : Shape) (item bytes at : ℕ) → IsShape shape → bytes 
 key_own shape item bytes at is fits (inl here) = (6, (omega arith, omega (arith, is.stride), sym here))
 key_own shape item bytes at is fits (inr (inl here)) = (7, (omega arith, omega (arith, is.stride), sym here))
 key_own shape item bytes at is fits (inr (inr later)) =
-    let row = in_row (link_of shape item + 8) (text_words bytes) at later in
+    let row = in_row (link_of shape item + item_head) (text_words bytes) at later in
     (at - link_of shape item, (omega (arith, row.0), omega (arith, row.0, row.1, is.stride, fits), omega (arith, row.0)))
 
 pub value_run : (shape : Shape) (first blocks bytes at : ℕ) → bytes ≤ 8 * (blocks * shape.block_words) → IsOneOf (value_places shape first bytes) at
@@ -150,7 +150,7 @@ value_within shape first bytes at is lie one =
 pub fields_off_key : (shape : Shape) (item bytes at : ℕ) → IsOneOf (field_places shape item) at → IsNoneOf (key_places shape item bytes) at
 fields_off_key shape item bytes at one =
     let low : at < link_of shape item + 6 = before one in
-    ((λ same. absurd (omega (arith, same, low))), ((λ same. absurd (omega (arith, same, low))), none_before (link_of shape item + 8) (text_words bytes) at (omega (arith, low))))
+    ((λ same. absurd (omega (arith, same, low))), ((λ same. absurd (omega (arith, same, low))), none_before (link_of shape item + item_head) (text_words bytes) at (omega (arith, low))))
   where
     before : IsOneOf (field_places shape item) at → at < link_of shape item + 6
     before (inl here) = omega (arith, here)
@@ -159,7 +159,7 @@ fields_off_key shape item bytes at one =
     before (inr (inr (inr none))) = absurd none
 
 pub key_count : (shape : Shape) (item bytes : ℕ) → length (key_places shape item bytes) ≡ 2 + text_words bytes
-key_count shape item bytes = omega (arith, row_length (link_of shape item + 8) (text_words bytes))
+key_count shape item bytes = omega (arith, row_length (link_of shape item + item_head) (text_words bytes))
 
 pub value_count : (shape : Shape) (first bytes : ℕ) → length (value_places shape first bytes) ≡ text_words bytes
 value_count shape first bytes = row_length (block_place shape first) (text_words bytes)

@@ -2,6 +2,7 @@
 -- stands in its blocks ("The Caching framework").
 use Rattle.std.specs.Prelude.{◌≡◌, ℕ, ◌+◌, ◌*◌, ◌<◌, ◌≤◌, List, [], ◌∷◌}
 use Rattle.uw_words.specs.declared.shape.Shape.{Shape}
+use Rattle.uw_words.specs.Shapes.{item_head}
 use Rattle.uw_words.specs.Walks.{link_of, item_word}
 use Rattle.uw_words.specs.Texts.{HoldsText, places_of_text, text_at}
 use Rattle.uw_items.specs.declared.records.Fields.{Fields}
@@ -16,11 +17,11 @@ LieInBlocks shape first bytes = 8 * (first * shape.block_words) + bytes ≤ 8 * 
 
 -- the key that an item holds, by its length (own rule)
 abbrev pub held_key : (ℕ → ℕ) → Shape → ℕ → List ℕ
-held_key reader shape item = text_at reader (link_of shape item + 8) (item_word reader shape item 6)
+held_key reader shape item = text_at reader (link_of shape item + item_head) (item_word reader shape item 6)
 
 -- the places of a key of so many bytes: words 6 and 7 of its item, and those of its bytes (own rule)
 abbrev pub key_places : Shape → (item bytes : ℕ) → List ℕ
-key_places shape item bytes = (link_of shape item + 6) ∷ (link_of shape item + 7) ∷ places_of_text (link_of shape item + 8) bytes
+key_places shape item bytes = (link_of shape item + 6) ∷ (link_of shape item + 7) ∷ places_of_text (link_of shape item + item_head) bytes
 
 -- the blocks from one on hold a value (own rule)
 abbrev pub HoldsValue : (ℕ → ℕ) → Shape → (first : ℕ) → List ℕ → Type 0

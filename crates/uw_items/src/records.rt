@@ -9,7 +9,7 @@ ghost use Rattle.uw_items.specs.Items.{block_place, LieInBlocks, held_key, key_p
 
 use std::alloc::Global;
 use uw_base::{Bytes, Memory, djb33x};
-use uw_words::{Overlay, Ram, Shape, put_text, text_at};
+use uw_words::{ITEM_HEAD, Overlay, Ram, Shape, put_text, text_at};
 
 /// What an item says of its entry beside the key.
 #[derive(Clone, Copy, Debug, PartialEq, Eq)]
@@ -43,7 +43,7 @@ pub fn put_key(over: &mut Overlay, shape: &Shape, item: u64, key: &[u8])
     let link = shape.link_of(item);
     over.put(link + 6, key.len() as u64);
     over.put(link + 7, djb33x(key));
-    put_text(over, link + 8, key);
+    put_text(over, link + ITEM_HEAD, key);
 }
 
 /// Plans a value into the blocks from one on: eight bytes a word, with 0 behind the last. Words behind its last one stay.
@@ -95,7 +95,7 @@ pub fn key_of(alloc: Global, ram: &Ram, shape: &Shape, item: u64) -> Result<Byte
     ensures { IfOk result (λ key. key ≡ held_key (region ram.now) shape.now item) }
 {
     let link = shape.link_of(item);
-    text_at(alloc, ram, link + 8, ram.load(link + 6))
+    text_at(alloc, ram, link + ITEM_HEAD, ram.load(link + 6))
 }
 
 /// A copy of the value that an item of the region holds, with nothing planned.

@@ -1,4 +1,5 @@
 use Rattle.std.proofs.Common.{◌+◌, ◌∷◌, length, arith}
+use Rattle.uw_words.specs.Shapes.{item_head}
 use Rattle.uw_words.specs.Texts.{places_of_text}
 use Rattle.uw_words.proofs.Growth.{room_now, room_next}
 use Rattle.uw_items.proofs.Held.{item_end, key_room, key_grew, key_holds}
@@ -7,14 +8,14 @@ use Rattle.uw_items.proofs.records.put_key.Goals as goal
 pub put-requires : goal.put-requires
 put-requires c =
     let link = c.link_of-link.result in
-    let row = places_of_text (link + 8) (length c.args.key.now) in
+    let row = places_of_text (link + item_head) (length c.args.key.now) in
     room_now c.args.over.now (link + 6) ((link + 7) ∷ row)
     (key_room c.args.shape.now c.args.over.now c.args.over.now c.args.over.now c.args.over.now c.args.item link 0 c.args.key.now c.link_of-link.ensures.link c.requires.room)
 
 pub put-requires-2 : goal.put-requires-2
 put-requires-2 c =
     let link = c.link_of-link.result in
-    let row = places_of_text (link + 8) (length c.args.key.now) in
+    let row = places_of_text (link + item_head) (length c.args.key.now) in
     room_now c.put.new.self (link + 7) row
     (room_next c.args.over.now c.put.new.self (link + 6) (length c.args.key.now) ((link + 7) ∷ row) c.put.ensures
     (key_room c.args.shape.now c.args.over.now c.args.over.now c.args.over.now c.args.over.now c.args.item link 0 c.args.key.now c.link_of-link.ensures.link c.requires.room))
@@ -26,7 +27,7 @@ put_text-requires-clause-within c =
 pub put_text-requires-clause-room : goal.put_text-requires-clause-room
 put_text-requires-clause-room c =
     let link = c.link_of-link.result in
-    let row = places_of_text (link + 8) (length c.args.key.now) in
+    let row = places_of_text (link + item_head) (length c.args.key.now) in
     room_next c.put.new.self c.put-2.new.self (link + 7) c.djb33x.result row c.put-2.ensures
     (room_next c.args.over.now c.put.new.self (link + 6) (length c.args.key.now) ((link + 7) ∷ row) c.put.ensures
     (key_room c.args.shape.now c.args.over.now c.args.over.now c.args.over.now c.args.over.now c.args.item link 0 c.args.key.now c.link_of-link.ensures.link c.requires.room))
