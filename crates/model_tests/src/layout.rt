@@ -4,8 +4,8 @@ ghost use Rattle.uw_model.specs.Entries.{IsCacheConf};
 use std::alloc::Global;
 use uw_base::Bytes;
 use uw_model::{
-    CacheConf, HEAD_WORDS, ITEM_HEAD, Layout, area_plan_room, area_words, block_words, byte_words,
-    item_words, key_words, layout_of, plan_room, words_of,
+    CacheConf, FIXED_ITEM_WORDS, HEAD_WORDS, Layout, area_plan_room, area_words, block_words,
+    byte_words, item_words, key_words, layout_of, plan_room, words_of,
 };
 
 /// A cache of 20,000 items for which a configuration says nothing else.
@@ -73,7 +73,7 @@ fn the_parts_of_a_region_have_their_places(rt: HostRuntime) {
         intent: 250,
     };
     assert_eq!(rt; layout_of(&small_cache(rt.alloc())), small);
-    assert_eq!(rt; (HEAD_WORDS, ITEM_HEAD), (16, 8));
+    assert_eq!(rt; (HEAD_WORDS, FIXED_ITEM_WORDS), (16, 8));
 }
 
 #[test]

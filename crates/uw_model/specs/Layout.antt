@@ -9,9 +9,9 @@ use Rattle.uw_model.specs.Entries.{max_value}
 abbrev pub head_words : ℕ
 head_words = 16
 
--- words of an item before those of its key
-abbrev pub item_head : ℕ
-item_head = 8
+-- the fixed words of an item, before those of its key: the number that uw_words names `item_head`
+abbrev pub fixed_item_words : ℕ
+fixed_item_words = 8
 
 -- words of a key
 abbrev pub key_words : CacheConf → ℕ
@@ -27,7 +27,7 @@ value_words conf = div_ceil (max_value conf) 8
 
 -- words of an item
 abbrev pub item_words : CacheConf → ℕ
-item_words conf = item_head + key_words conf
+item_words conf = fixed_item_words + key_words conf
 
 -- words of the bitmap, which has a bit for each block
 abbrev pub bitmap_words : CacheConf → ℕ

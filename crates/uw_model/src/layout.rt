@@ -11,7 +11,7 @@ use crate::sizes::max_value;
 pub const HEAD_WORDS: u64 = 16;
 
 /// The words of an item before those of its key.
-pub const ITEM_HEAD: u64 = 8;
+pub const FIXED_ITEM_WORDS: u64 = 8;
 
 /// Where the parts of a cache's region begin, by word numbers from 0. The header stands before them.
 #[derive(Clone, Copy, Debug, PartialEq, Eq)]
@@ -48,7 +48,7 @@ pub fn item_words(conf: &CacheConf) -> u64
     ensures words { result ≡ item_words conf.now }
     ensures few { result ≤ 8200 }
 {
-    ITEM_HEAD + key_words(conf)
+    FIXED_ITEM_WORDS + key_words(conf)
 }
 
 // The words of the longest value.

@@ -19,6 +19,7 @@ mod list_area;
 mod list_cache;
 mod list_desk;
 mod numbers;
+pub mod own_desk;
 mod placement;
 mod sizes;
 mod steps;
@@ -33,12 +34,13 @@ pub use conf::CacheConf;
 pub use desk::{Desk, DeskFault, make_ask};
 pub use entries::Entry;
 pub use layout::{
-    HEAD_WORDS, ITEM_HEAD, Layout, block_words, item_words, key_words, layout_of, plan_room,
+    FIXED_ITEM_WORDS, HEAD_WORDS, Layout, block_words, item_words, key_words, layout_of, plan_room,
     words_of,
 };
 pub use list_area::ListArea;
 pub use list_cache::ListCache;
 pub use list_desk::ListDesk;
 pub use numbers::{dies_of_number, is_zero_division, result_of};
+pub use own_desk::OwnDesk;
 pub use placement::is_alive_until;
 pub use sizes::{dies_at, is_bad_key, is_too_long, span_of};

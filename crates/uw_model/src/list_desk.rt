@@ -6,11 +6,12 @@ ghost use Rattle.uw_model.specs.AreaOps.{IsAreaSize};
 ghost use Rattle.uw_model.specs.declared.asks.Ask.TheVariants as asks;
 ghost use Rattle.uw_model.specs.declared.asks.AskAnswer.TheVariants as ask_answers;
 ghost use Rattle.uw_model.specs.Asks.{Asking, Calls, has_died};
-ghost use Rattle.uw_model.specs.Lists.{LeadsLists, LeadsLists-append, empty_lists, parts_of};
+ghost use Rattle.std.proofs.Common.{subst};
+ghost use Rattle.uw_model.specs.Lists.{LeadsLists, LeadsLists-append, Lists, empty_lists, parts_of};
 ghost use Rattle.uw_outside.specs.Faults.{HasCause};
 
 use crate::list_area::ListArea;
-use crate::{Answer, AreaAnswer, AreaOp, CacheConfList, Call, Desk, DeskFault, ListCache};
+use crate::{Answer, AreaAnswer, AreaOp, CacheConfList, Call, Desk, DeskFault, ListCache, OwnDesk};
 use std::alloc::Global;
 use std::marker::Model;
 use uw_base::{Memory, NumberList};
@@ -113,4 +114,11 @@ impl Desk for ListDesk {
     ghost leads_none = { λ desk. refl };
 
     ghost leads_more = { λ a b c early late first more. LeadsLists-append a b c early late };
+}
+
+impl OwnDesk for ListDesk {
+    ghost stands = { λ desk lists. desk ≡ lists };
+
+    ghost stands_on = { λ a b asked writes lists led same.
+        (b, subst (λ (from : Lists). LeadsLists from asked b) same led, refl) };
 }
