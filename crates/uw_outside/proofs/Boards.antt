@@ -10,7 +10,8 @@ pub appends_at : {X : Type 0} (text : X → List ℕ) (xs : List X) (place : ℕ
     → AppendsAt (map text xs) (map text (set xs place new)) place piece
 appends_at text xs place old new piece within at more =
     let before : get_or (map text xs) place [] ≡ text old = get_or-map text xs place old [] within ∙ sym (ap text at) in
-    let after : text new ≡ get_or (map text xs) place [] ++ piece = more ∙ ap (λ (t : List ℕ). t ++ piece) (sym before) in
+    let after : text new ≡ get_or (map text xs) place [] ++ piece =
+    more ∙ ap (λ (t : List ℕ). t ++ piece) (sym before) in
     (omega (arith, length-map xs text), map-set text xs place new ∙ ap (set (map text xs) place) after)
 
 -- one of the values gives way to one of the same text

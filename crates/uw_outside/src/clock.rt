@@ -1,6 +1,7 @@
 // A clock, and one in memory.
 ghost use Rattle.std.specs.Prelude.{◌≡◌, ◌<◌, ◌++◌, List, [], ◌∷◌, ℕ, vec_len, refl};
-ghost use Rattle.uw_outside.specs.Moments.{GivesInOrder, GivesInOrder-append, GivesAlways, GivesAlways-none, GivesAlways-append};
+ghost use Rattle.uw_outside.specs.Moments.{GivesInOrder, GivesInOrder-append};
+ghost use Rattle.uw_outside.specs.Moments.{GivesAlways, GivesAlways-none, GivesAlways-append};
 
 use std::marker::Model;
 

@@ -46,7 +46,14 @@ impl<R: Read + Drop> Reading<R> {
     pub fn new(alloc: Global, reader: R) -> Result<Reading<R>, AllocError>
         ensures { IfOk result (λ s. s ≡ record { ended = false; faults = 0 }) }
     {
-        match BufReader::with_capacity(alloc, BUFFER_BYTES, reader) {
+        Reading::ahead(alloc, BUFFER_BYTES, reader)
+    }
+
+    // The same, with a buffer of so many bytes.
+    pub(crate) fn ahead(alloc: Global, bytes: usize, reader: R) -> Result<Reading<R>, AllocError>
+        ensures { IfOk result (λ s. s ≡ record { ended = false; faults = 0 }) }
+    {
+        match BufReader::with_capacity(alloc, bytes, reader) {
             Ok(reader) => Ok(Reading {
                 reader,
                 met: Met::Byte,

@@ -37,7 +37,8 @@ pub trait Source {
         ensures ended { Ends (ended self.old) (ended self.new) result }
         ensures cause { HasCause (faults self.old) (faults self.new) (is_failed result) };
 
-    /// Waits until the source has a byte, has ended or has failed. It takes nothing: what it met, the next read answers.
+    /// Waits until the source has a byte, has ended or has failed. It takes nothing, and counts nothing: what it met in
+    /// place of a byte is for the next read to answer.
     fn wait(&mut self)
         ensures left { left self.new ≡ left self.old }
         ensures ended { ended self.new ≡ ended self.old }
