@@ -217,6 +217,8 @@ where
             Err(_) => Err(io::Error::from(ErrorKind::InvalidInput)),
         },
         Some(_) => Ok(Socket::Tcp(TcpListener::bind(rt, text)?)),
+        // The system would choose a name that nobody knows.
+        None if text.is_empty() => Err(io::Error::from(ErrorKind::InvalidInput)),
         None => {
             if is_left(rt, text) {
                 fs::remove_file(rt, text)?;
