@@ -21,7 +21,8 @@ held_key reader shape item = text_at reader (link_of shape item + item_head) (it
 
 -- the places of a key of so many bytes: words 6 and 7 of its item, and those of its bytes (own rule)
 abbrev pub key_places : Shape → (item bytes : ℕ) → List ℕ
-key_places shape item bytes = (link_of shape item + 6) ∷ (link_of shape item + 7) ∷ places_of_text (link_of shape item + item_head) bytes
+key_places shape item bytes =
+    (link_of shape item + 6) ∷ (link_of shape item + 7) ∷ places_of_text (link_of shape item + item_head) bytes
 
 -- the blocks from one on hold a value (own rule)
 abbrev pub HoldsValue : (ℕ → ℕ) → Shape → (first : ℕ) → List ℕ → Type 0

@@ -39,8 +39,9 @@ pub fn out_places_are_of_the_list()
 
 /// An item of the list that comes to the front is written to places of the list.
 pub fn to_front_places_are_of_the_list()
-    ensures { (shape : Shape) (reader : ℕ → ℕ) (items : List ℕ) (item at : ℕ) → IsShape shape → IsRecency reader shape items
-        → IsOneOf items item → IsOneOf (to_front_places reader shape items item) at → IsRecencyPlace shape items at }
+    ensures { (shape : Shape) (reader : ℕ → ℕ) (items : List ℕ) (item at : ℕ) → IsShape shape
+        → IsRecency reader shape items → IsOneOf items item
+        → IsOneOf (to_front_places reader shape items item) at → IsRecencyPlace shape items at }
 {}
 
 /// An item of the list comes to the front by six writes at most.

@@ -1,5 +1,5 @@
--- The key that an item of a region holds (own rule): word 6 is its length in bytes, word 7 its hash, and its bytes stand
--- behind the item's fixed words.
+-- The key that an item of a region holds (own rule): word 6 is its length in bytes, word 7 its hash, and its bytes
+-- stand behind the item's fixed words.
 use Rattle.std.specs.Prelude.{◌≡◌, ℕ, ◌+◌, ◌*◌, ◌≤◌, List, length}
 use Rattle.uw_base.specs.Numbers.{djb33x_of}
 use Rattle.uw_words.specs.declared.shape.Shape.{Shape}

@@ -1,4 +1,5 @@
-//! Laws of planned words, of texts as words, and of walks along links. Each is the contract of a function that does nothing.
+//! Laws of planned words, of texts as words, and of walks along links. Each is the contract of a function that does
+//! nothing.
 ghost use Rattle.std.specs.Prelude.{◌≡◌, ◌≢◌, ◌+◌, ◌*◌, ◌<◌, ◌≤◌, ◌↔◌, ℕ, List, ◌++◌, true, length};
 ghost use Rattle.std.specs.List.{All};
 ghost use Rattle.uw_words.specs.declared.shape.Shape.{Shape};
@@ -61,7 +62,8 @@ pub fn the_text_that_words_hold_is_of_bytes()
 /// Texts of bytes are told apart by their words: those of one length and with the same words are one text.
 pub fn texts_are_told_apart_by_their_words()
     ensures { (text other : List ℕ) → All (λ byte. byte < 256) text → All (λ byte. byte < 256) other
-        → length text ≡ length other → ((k : ℕ) → 8 * k < length text → text_word text k ≡ text_word other k) → text ≡ other }
+        → length text ≡ length other
+        → ((k : ℕ) → 8 * k < length text → text_word text k ≡ text_word other k) → text ≡ other }
 {}
 
 /// A text of bytes whose words are held is the one that is read.

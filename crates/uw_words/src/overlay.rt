@@ -43,8 +43,9 @@ impl Model for Overlay {
 }
 
 impl Overlay {
-    /// Can name so many places. Takes the memory for all of them: 16 bytes for each, and four for each slot, of which there
-    /// are as many as the least power of two from twice the places and 128 on. For 2^32 places or more there is no memory.
+    /// Can name so many places. Takes the memory for all of them: 16 bytes for each, and four for each slot, of which
+    /// there are as many as the least power of two from twice the places and 128 on. For 2^32 places or more there is
+    /// no memory.
     pub fn new(alloc: Global, room: u64) -> Result<Overlay, Memory>
         ensures empty { IfOk result (λ overlay. overlay ≡ record { writes = []; room = room }) }
         ensures few { IfOk result (λ overlay. room < 2 ^ 32) }

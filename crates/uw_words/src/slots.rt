@@ -1,5 +1,5 @@
-// A table of slots by which a place is found among planned writes in constant time. A slot has four bytes, since an overlay
-// has several for each place that it can name.
+// A table of slots by which a place is found among planned writes in constant time. A slot has four bytes, since an
+// overlay has several for each place that it can name.
 ghost use Rattle.std.specs.Prelude.{◌≡◌, ◌+◌, ◌^◌, ◌<◌, ◌≤◌, replicate, length, slice_set, vec_capacity, vec_len};
 ghost use Rattle.uw_words.specs.Plans.{HasDistinctPlaces};
 ghost use Rattle.uw_words.specs.Slots.{IsTable, home};
