@@ -8,7 +8,7 @@ use Rattle.std.proofs.lemmas.Bool.Decides.{nat_tests}
 use Rattle.uw_model.specs.declared.conf.CacheConf.{CacheConf}
 use Rattle.uw_model.specs.declared.entries.Entry.{Entry}
 use Rattle.uw_model.specs.Entries.{span}
-use Rattle.uw_model.specs.Placement.{alive_of, is_alive, is_clear_of, is_free}
+use Rattle.uw_model.specs.Placement.{is_clear_of, is_free}
 use Rattle.uw_model.specs.PlacementSteps.{counts, counted, is_in_the_way, IsBlockedUntil}
 
 pub counted-filter : (conf : CacheConf) (at : Option ℕ) (list : List Entry) → counted conf at list ≡ filter (counts conf at) list
@@ -16,9 +16,8 @@ counted-filter conf None [] = refl
 counted-filter conf None (e ∷ list) = ap (λ l. e ∷ l) (counted-filter conf None list)
 counted-filter conf (Some now) list = refl
 
-pub length_alive : (conf : CacheConf) (now : ℕ) (list : List Entry)
-    → count_by (is_alive conf now) list ≡ length (alive_of conf now list)
-length_alive conf now list = sym (length-filter (is_alive conf now) list)
+pub length_counted : (conf : CacheConf) (at : Option ℕ) (list : List Entry) → count_by (counts conf at) list ≡ length (counted conf at list)
+length_counted conf at list = sym (ap length (counted-filter conf at list) ∙ length-filter (counts conf at) list)
 
 not-not : (b : Bool) → not (not b) ≡ b
 not-not true = refl

@@ -99,15 +99,12 @@ fn first_run(conf: &CacheConf, entries: &[Entry], at: Option<u64>, n: u64) -> Op
     None
 }
 
-/// How many entries count. Where all do, none is looked at.
-#[tactic(auto, using(crate::proofs::CountedLemmas::length_alive))]
+/// How many entries count.
+#[tactic(auto, using(crate::proofs::CountedLemmas::length_counted))]
 fn count(conf: &CacheConf, entries: &[Entry], at: Option<u64>) -> usize
     ensures { result ≡ length (counted conf.now at entries.now) }
 {
-    match at {
-        None => entries.len(),
-        Some(moment) => entries.iter().filter(|e| is_alive(conf, moment, e)).count(),
-    }
+    entries.iter().filter(|e| counts(conf, at, e)).count()
 }
 
 /// The first run of n blocks for one more entry beside those that count. None where there is no such run, or as many
