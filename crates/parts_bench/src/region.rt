@@ -9,7 +9,7 @@ ghost use Rattle.parts_bench.specs.Tables.{redo_frame};
 
 use uw_intent::{Frame, commit};
 use uw_outside::Immortal;
-use uw_words::{Overlay, Ram, Shape};
+use uw_words::{ITEM_HEAD, Overlay, Ram, Shape};
 
 /// How many items, chains and blocks a region has, and how many words are planned for it at a time.
 #[derive(Clone, Copy)]
@@ -36,13 +36,13 @@ pub fn shape_of(sizes: &Sizes) -> Option<Shape>
     }
     let chains = 16 + sizes.blocks.div_ceil(64);
     let items = chains + sizes.chains;
-    let blocks = items + sizes.items * 9;
+    let blocks = items + sizes.items * (ITEM_HEAD + 1);
     Some(Shape {
         head: 0,
         bitmap: 16,
         chains,
         items,
-        stride: 9,
+        stride: ITEM_HEAD + 1,
         blocks,
         intent: blocks + sizes.blocks,
         room: 3 * sizes.planned,
