@@ -1,5 +1,5 @@
 -- A configuration from the text that was read.
-use Rattle.std.proofs.Common.{◌≡◌, ℕ, ◌+◌, ◌<◌, ◌≤◌, List, [], length, take, Option, Result, Ok, Err, refl, inl, inr, arith}
+use Rattle.std.proofs.Common.{◌≡◌, ℕ, ◌+◌, ◌<◌, ◌≤◌, List, [], ◌∷◌, length, take, Option, None, Some, Result, Ok, Err, refl, sym, subst, inl, inr, arith}
 use Rattle.std.proofs.Math.Seq.{take-length}
 use Rattle.std.proofs.lemmas.List.{length-take-le}
 use Rattle.uw_outside.specs.Streams.{Takes}
@@ -13,7 +13,10 @@ use Rattle.uw_ends.specs.declared.ends.RunFault.{RunFault}
 use Rattle.uw_ends.specs.declared.ends.RunFault.TheVariants as faults
 use Rattle.uw_conf.specs.Given.{options_in}
 use Rattle.uw_session.specs.Exchange.{IsSiteOf, Site}
-use Rattle.uw_top.specs.Run.{ReadsText, IsSaid, IsSaidWithACache, Runs, site_of}
+use Rattle.uw_ends.specs.declared.ends.RunEnd.{RunEnd}
+use Rattle.uw_ends.specs.declared.words.Command.{Command}
+use Rattle.uw_ends.specs.declared.words.Command.TheVariants as commands
+use Rattle.uw_top.specs.Run.{Does, IsNotBegun, IsSaid, IsSaidWithACache, IsUntouched, ReadsText, Runs, Sameness, Surroundings, site_of}
 use Rattle.uw_top.specs.RunSteps.{GivesConf, Says}
 
 -- what a text says is the configuration that is given, or the refusal
@@ -61,3 +64,21 @@ pub runs_map : (before after : ℕ) (said : ℕ → ℕ → List ℕ → Result 
 runs_map before after said r untouched still fault Ran Did same does (inl (text, conf, read, says, ran)) =
     inl (text, conf, read, says, does (site_of text (options_in conf)) ran)
 runs_map before after said r untouched still fault Ran Did same does (inr (begun, left)) = inr (begun, same left)
+
+-- there was no memory for a command's words, or before anything was read
+pub out_of_memory : (command : Option Command) (s : Surroundings) (same : Sameness) (end : RunEnd) → end.fault ≡ Some faults.Memory → same.conf → same.make
+    → IsUntouched same end → Takes s.conf.before s.conf.now [] → s.refused_now ≡ s.refused → s.conf.faults_now ≡ s.conf.faults_before → Does command s same end
+out_of_memory command s same end fault conf make untouched taken refused kept = by_command command
+  where
+    not_begun : (said : ℕ → ℕ → List ℕ → Result Conf ConfFault → Type 0) → IsNotBegun s.refused s.refused_now said s.conf end.fault
+    not_begun said =
+        subst (λ (f : Option RunFault). IsNotBegun s.refused s.refused_now said s.conf f) (sym fault) (([], taken, omega arith), omega (arith, refused), kept)
+
+    by_command : (of : Option Command) → Does of s same end
+    by_command (Some (commands.Pipe [])) = inr (not_begun IsSaid, untouched)
+    by_command (Some (commands.Pipe (death ∷ deaths))) = (inr fault, conf, make, untouched)
+    by_command (Some commands.Spool) = inr (not_begun IsSaid, untouched)
+    by_command (Some (commands.Load first count)) = inr (not_begun IsSaidWithACache, untouched)
+    by_command (Some commands.Steps) = (inr fault, conf, make, untouched)
+    by_command (Some commands.Serve) = (inr fault, conf, make, untouched)
+    by_command None = (inr fault, conf, make, untouched)

@@ -7,4 +7,6 @@ pub mod Packets
 pub mod Parts
 pub mod SameEndLemmas
 pub mod SpoolLemmas
+pub mod Standing
+pub mod StandingRounds
 pub mod Stopping

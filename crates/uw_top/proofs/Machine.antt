@@ -4,6 +4,7 @@ use Rattle.std.proofs.lemmas.List.{append-nil, length-append, map-append}
 use Rattle.std.proofs.lemmas.Grind.{flat_map-append}
 use Rattle.uw_outside.specs.Faults.{HasCause, Rose}
 use Rattle.uw_outside.proofs.Causes.{HasCause-none, HasCause-then}
+use Rattle.uw_outside.specs.Lives.{Spends}
 use Rattle.uw_outside.specs.Streams.{Inflow, Outflow, Takes}
 use Rattle.uw_outside.proofs.Streams.{Takes-none, Takes-append, Gives-none, Gives-append}
 use Rattle.uw_model.specs.Asks.{Asking}
@@ -32,9 +33,9 @@ TurnsLead-push leads site state allowed (u ∷ turns) t middle still after left 
 
 -- no turn yet
 pub none_yet : {S Clk : Type 0} (gave : Clk → Clk → List ℕ → Type 0) (gave_none : (clock : Clk) → gave clock clock [])
-    (leads : S → S → List Asking → ℕ → Type 0) (start : S) (site : Site) (left taken : Option (List ℕ)) (clock : Clk)
-    → SoFar leads start site start [] left left taken taken (gave clock clock) 0
-none_yet gave gave_none leads start site left taken clock = record {
+    (leads : S → S → List Asking → ℕ → Type 0) (start : S) (allowed : Option (List ℕ)) (site : Site) (left taken : Option (List ℕ)) (clock : Clk)
+    → SoFar leads start allowed site start allowed [] left left taken taken (gave clock clock) 0
+none_yet gave gave_none leads start allowed site left taken clock = record {
   turns = [];
   passed = (refl, refl);
   read = Takes-none left;
@@ -47,13 +48,13 @@ none_yet gave gave_none leads start site left taken clock = record {
 -- one turn more
 pub one_more : {S Clk : Type 0} (gave : Clk → Clk → List ℕ → Type 0)
     (gave_more : (a b c : Clk) (early late : List ℕ) → gave a b early → gave b c late → gave a c (early ++ late))
-    (leads : S → S → List Asking → ℕ → Type 0) (start held after : S) (site : Site) (told told_now : List Brief)
+    (leads : S → S → List Asking → ℕ → Type 0) (start held after : S) (allowed more still : Option (List ℕ)) (site : Site) (told told_now : List Brief)
     (left middle now taken between taken_now : Option (List ℕ)) (clock mid later : Clk) (ended : Bool) (f0 f1 s0 s1 served : ℕ)
-    → SoFar leads start site held told left middle taken between (gave clock mid) served
-    → Goes (leads held after) site told told_now (record { before = middle; now = now; ended = ended; faults_before = f0; faults_now = f1 })
+    → SoFar leads start allowed site held more told left middle taken between (gave clock mid) served
+    → Goes (leads held after) site more still told told_now (record { before = middle; now = now; ended = ended; faults_before = f0; faults_now = f1 })
     (record { before = between; now = taken_now; faults_before = s0; faults_now = s1 }) (gave mid later)
-    → SoFar leads start site after told_now left now taken taken_now (gave clock later) (served + 1)
-one_more gave gave_more leads start held after site told told_now left middle now taken between taken_now clock mid later ended f0 f1 s0 s1 served s g =
+    → SoFar leads start allowed site after still told_now left now taken taken_now (gave clock later) (served + 1)
+one_more gave gave_more leads start held after allowed more still site told told_now left middle now taken between taken_now clock mid later ended f0 f1 s0 s1 served s g =
     let ts = s.turns in
     let t = g.turn in
     let bytes : Turn → List ℕ = λ u. exchange_bytes u.packet in
@@ -62,7 +63,7 @@ one_more gave gave_more leads start held after site told told_now left middle no
     let frames : frames_of ts ++ frame t ≡ frames_of (ts ++ t ∷ []) = rw (flat_map-append frame ts (t ∷ [])) (ap (λ b. frames_of ts ++ b) (sym (append-nil (frame t)))) in
     record {
       turns = ts ++ t ∷ [];
-      passed = TurnsLead-push leads site start unbounded ts t held unbounded after unbounded s.passed g.is g.asks g.allowed;
+      passed = TurnsLead-push leads site start allowed ts t held more after still s.passed g.is g.asks g.allows;
       read = rw (← whole) (Takes-append left middle now (bytes_of ts) (bytes t) s.read g.read);
       written = rw (← frames) (Gives-append taken between taken_now (frames_of ts) (frame t) s.written g.written);
       moments = rw (map-append (λ (u : Turn). u.packet.moment) ts (t ∷ [])) (gave_more clock mid later (moments_of ts) (t.packet.moment ∷ []) s.moments g.moments);
@@ -71,12 +72,12 @@ one_more gave gave_more leads start held after site told told_now left middle no
     }
 
 -- the end of a run behind so many turns, the source and the sink having been these before them
-abbrev pub ending_behind : Option (List ℕ) → Option (List ℕ) → Option (List ℕ) → Option (List ℕ) → Bool → ℕ → ℕ → ℕ → ℕ → ℕ → List ℕ → List ℕ → List ℕ → Ending
-ending_behind left now taken taken_now ended f0 f2 s0 s2 count rest part late = record {
+abbrev pub ending_behind : (left now taken taken_now allowed still : Option (List ℕ)) → Bool → (f0 f2 s0 s2 count : ℕ) → (rest part late : List ℕ) → Ending
+ending_behind left now taken taken_now allowed still ended f0 f2 s0 s2 count rest part late = record {
   src = record { before = left; now = now; ended = ended; faults_before = f0; faults_now = f2 };
   snk = record { before = taken; now = taken_now; faults_before = s0; faults_now = s2 };
-  allowed = unbounded;
-  still = unbounded;
+  allowed = allowed;
+  still = still;
   count = count;
   rest = rest;
   part = part;
@@ -84,29 +85,29 @@ ending_behind left now taken taken_now ended f0 f2 s0 s2 count rest part late = 
 }
 
 -- a turn that was the last was no one behind the most
-below : (left middle now taken between taken_now : Option (List ℕ)) (ended : Bool) (f0 f1 f2 s0 s1 s2 count : ℕ) (rest part late : List ℕ)
-    → count < most_packets → IsBelowMost (ending_behind middle now between taken_now ended f1 f2 s1 s2 0 rest part late)
-    → IsBelowMost (ending_behind left now taken taken_now ended f0 f2 s0 s2 count rest part late)
-below left middle now taken between taken_now ended f0 f1 f2 s0 s1 s2 count rest part late few e = (few, e.1, e.2)
+below : (left middle now taken between taken_now allowed still : Option (List ℕ)) (ended : Bool) (f0 f1 f2 s0 s1 s2 count : ℕ) (rest part late : List ℕ)
+    → count < most_packets → IsBelowMost (ending_behind middle now between taken_now allowed still ended f1 f2 s1 s2 0 rest part late)
+    → IsBelowMost (ending_behind left now taken taken_now allowed still ended f0 f2 s0 s2 count rest part late)
+below left middle now taken between taken_now allowed still ended f0 f1 f2 s0 s1 s2 count rest part late few e = (few, e.1, e.2)
 
 -- why a turn was the last is why the run ended
-ends_later : (led : List Asking → ℕ → Type 0) (site : Site) (left middle now taken between taken_now : Option (List ℕ)) (ended : Bool) (f0 f1 f2 s0 s1 s2 count : ℕ)
+ends_later : (led : List Asking → ℕ → Type 0) (site : Site) (left middle now taken between taken_now allowed still : Option (List ℕ)) (ended : Bool) (f0 f1 f2 s0 s1 s2 count : ℕ)
     (rest part late : List ℕ) (fault : Option RunFault)
     → f0 ≤ f1 → s0 ≤ s1 → length late ≡ 1 → count < most_packets
-    → EndsBy led site (ending_behind middle now between taken_now ended f1 f2 s1 s2 0 rest part late) fault
-    → EndsBy led site (ending_behind left now taken taken_now ended f0 f2 s0 s2 count rest part late) fault
-ends_later led site left middle now taken between taken_now ended f0 f1 f2 s0 s1 s2 count rest part late None lf ls one few e =
+    → EndsBy led site (ending_behind middle now between taken_now allowed still ended f1 f2 s1 s2 0 rest part late) fault
+    → EndsBy led site (ending_behind left now taken taken_now allowed still ended f0 f2 s0 s2 count rest part late) fault
+ends_later led site left middle now taken between taken_now allowed still ended f0 f1 f2 s0 s1 s2 count rest part late None lf ls one few e =
     (e.0, e.1, elim e.2 [ inl b ↦ inl (few, b.1, b.2) | inr a ↦ absurd (omega (arith, a.0)) ], e.3)
-ends_later led site left middle now taken between taken_now ended f0 f1 f2 s0 s1 s2 count rest part late (Some faults.ReadFault) lf ls one few e =
+ends_later led site left middle now taken between taken_now allowed still ended f0 f1 f2 s0 s1 s2 count rest part late (Some faults.ReadFault) lf ls one few e =
     (rose_since f0 f1 f2 lf e.0, elim e.1 [ inl b ↦ inl ((few, b.0.1, b.0.2), b.1) | inr a ↦ absurd (omega (arith, a.0.0)) ], e.2)
-ends_later led site left middle now taken between taken_now ended f0 f1 f2 s0 s1 s2 count rest part late (Some faults.WriteFault) lf ls one few e =
+ends_later led site left middle now taken between taken_now allowed still ended f0 f1 f2 s0 s1 s2 count rest part late (Some faults.WriteFault) lf ls one few e =
     let cut = e.2 in
     (rose_since s0 s1 s2 ls e.0, few, record { turn = cut.turn; is = cut.is; asks = cut.asks; allows = cut.allows; moment = cut.moment; read = cut.read; written = cut.written })
-ends_later led site left middle now taken between taken_now ended f0 f1 f2 s0 s1 s2 count rest part late (Some (faults.Truncated got want)) lf ls one few e =
+ends_later led site left middle now taken between taken_now allowed still ended f0 f1 f2 s0 s1 s2 count rest part late (Some (faults.Truncated got want)) lf ls one few e =
     (e.0, e.1, (few, e.2.1, e.2.2), e.3)
-ends_later led site left middle now taken between taken_now ended f0 f1 f2 s0 s1 s2 count rest part late (Some (faults.BadPacket packet)) lf ls one few e =
+ends_later led site left middle now taken between taken_now allowed still ended f0 f1 f2 s0 s1 s2 count rest part late (Some (faults.BadPacket packet)) lf ls one few e =
     (e.0, (few, e.1.1, e.1.2), e.2)
-ends_later led site left middle now taken between taken_now ended f0 f1 f2 s0 s1 s2 count rest part late (Some faults.Memory) lf ls one few e = elim e [
+ends_later led site left middle now taken between taken_now allowed still ended f0 f1 f2 s0 s1 s2 count rest part late (Some faults.Memory) lf ls one few e = elim e [
   | inl unbegun ↦ absurd (omega (arith, one, ap length unbegun.3))
   | inr below ↦ inr (
     (few, below.0.1, below.0.2),
@@ -123,93 +124,100 @@ ends_later led site left middle now taken between taken_now ended f0 f1 f2 s0 s1
     ],
   )
 ]
-ends_later led site left middle now taken between taken_now ended f0 f1 f2 s0 s1 s2 count rest part late (Some faults.TooMany) lf ls one few e = absurd (omega (arith, e.1.0))
-ends_later led site left middle now taken between taken_now ended f0 f1 f2 s0 s1 s2 count rest part late (Some _) lf ls one few e = absurd e
+ends_later led site left middle now taken between taken_now allowed still ended f0 f1 f2 s0 s1 s2 count rest part late (Some faults.TooMany) lf ls one few e = absurd (omega (arith, e.1.0))
+ends_later led site left middle now taken between taken_now allowed still ended f0 f1 f2 s0 s1 s2 count rest part late (Some _) lf ls one few e = absurd e
 
 -- the turns so far, and one that was the last
 pub run_ends : {S Clk : Type 0} (gave : Clk → Clk → List ℕ → Type 0)
     (gave_more : (a b c : Clk) (early late : List ℕ) → gave a b early → gave b c late → gave a c (early ++ late))
-    (leads : S → S → List Asking → ℕ → Type 0) (start held after : S) (site : Site) (told told_now : List Brief)
+    (leads : S → S → List Asking → ℕ → Type 0) (start held after : S) (allowed more still : Option (List ℕ)) (site : Site) (told told_now : List Brief)
     (left middle now taken between taken_now : Option (List ℕ)) (clock mid later : Clk)
     (ended : Bool) (f0 f1 f2 s0 s1 s2 served : ℕ) (fault : Option RunFault)
     → f1 ≡ f0 → s1 ≡ s0 → HasCause f1 f2 (has_failed_to_read fault) → HasCause s1 s2 (has_failed_to_write fault) → served < most_packets
-    → SoFar leads start site held told left middle taken between (gave clock mid) served
-    → (told_now ≡ told) × IsLast (leads held after) site (record { before = middle; now = now; ended = ended; faults_before = f1; faults_now = f2 })
+    → SoFar leads start allowed site held more told left middle taken between (gave clock mid) served
+    → (told_now ≡ told) × IsLast (leads held after) site more still (record { before = middle; now = now; ended = ended; faults_before = f1; faults_now = f2 })
     (record { before = between; now = taken_now; faults_before = s1; faults_now = s2 }) (gave mid later) fault
-    → PipeRun leads start after unbounded site (record { before = left; now = now; ended = ended; faults_before = f0; faults_now = f2 })
-    (record { before = taken; now = taken_now; faults_before = s0; faults_now = s2 }) (gave clock later) told_now fault
-run_ends gave gave_more leads start held after site told told_now left middle now taken between taken_now clock mid later ended f0 f1 f2 s0 s1 s2 served fault lf ls reads writes few s stopped =
+    → (run : PipeRun leads start after allowed site (record { before = left; now = now; ended = ended; faults_before = f0; faults_now = f2 })
+    (record { before = taken; now = taken_now; faults_before = s0; faults_now = s2 }) (gave clock later) told_now fault) × (run.still ≡ still)
+run_ends gave gave_more leads start held after allowed more still site told told_now left middle now taken between taken_now clock mid later ended f0 f1 f2 s0 s1 s2 served fault lf ls reads writes few s stopped =
     let few' : length s.turns < most_packets = rw s.count few in
-    let t = stopped.1 in
-    record {
-      turns = s.turns;
-      behind = held;
-      left = unbounded;
-      still = unbounded;
-      rest = t.rest;
-      part = t.part;
-      late = t.moment ∷ [];
-      passed = s.passed;
-      few = omega arith;
-      read = Takes-append left middle now (bytes_of s.turns) t.rest s.read t.read;
-      written = Gives-append taken between taken_now (frames_of s.turns) t.part s.written t.written;
-      moments = gave_more clock mid later (moments_of s.turns) (t.moment ∷ []) s.moments t.moments;
-      briefs = stopped.0 ∙ s.briefs;
-      reads = HasCause-then f0 f1 f2 (has_failed_to_read fault) lf reads;
-      writes = HasCause-then s0 s1 s2 (has_failed_to_write fault) ls writes;
-      ending = ends_later (leads held after) site left middle now taken between taken_now ended f0 f1 f2 s0 s1 s2 (length s.turns) t.rest t.part (t.moment ∷ []) fault (omega (arith, lf)) (omega (arith, ls)) refl few' t.ending;
-    }
+    let t = stopped.1 in (
+      record {
+        turns = s.turns;
+        behind = held;
+        left = more;
+        still = still;
+        rest = t.rest;
+        part = t.part;
+        late = t.moment ∷ [];
+        passed = s.passed;
+        few = omega arith;
+        read = Takes-append left middle now (bytes_of s.turns) t.rest s.read t.read;
+        written = Gives-append taken between taken_now (frames_of s.turns) t.part s.written t.written;
+        moments = gave_more clock mid later (moments_of s.turns) (t.moment ∷ []) s.moments t.moments;
+        briefs = stopped.0 ∙ s.briefs;
+        reads = HasCause-then f0 f1 f2 (has_failed_to_read fault) lf reads;
+        writes = HasCause-then s0 s1 s2 (has_failed_to_write fault) ls writes;
+        ending = ends_later (leads held after) site left middle now taken between taken_now more still ended f0 f1 f2 s0 s1 s2 (length s.turns) t.rest t.part (t.moment ∷ []) fault (omega (arith, lf)) (omega (arith, ls)) refl few' t.ending;
+      },
+      refl,
+    )
 
 -- all packets of a run were served, and this much was read behind them
 full : {S Clk : Type 0} (gave : Clk → Clk → List ℕ → Type 0)
-    (leads : S → S → List Asking → ℕ → Type 0) (start held : S) (site : Site) (told : List Brief) (left middle now taken taken_now : Option (List ℕ)) (clock mid : Clk)
+    (leads : S → S → List Asking → ℕ → Type 0) (start held : S) (allowed more : Option (List ℕ)) (site : Site) (told : List Brief)
+    (left middle now taken taken_now : Option (List ℕ)) (clock mid : Clk)
     (ended : Bool) (f0 f2 s0 s1 : ℕ) (rest : List ℕ) (fault : Option RunFault) (served : ℕ) → served ≡ most_packets
-    → (s : SoFar leads start site held told left middle taken taken_now (gave clock mid) served)
+    → (s : SoFar leads start allowed site held more told left middle taken taken_now (gave clock mid) served)
     → Takes middle now rest → HasCause f0 f2 (has_failed_to_read fault) → HasCause s0 s1 (has_failed_to_write fault)
-    → EndsBy (leads held held) site (ending_behind left now taken taken_now ended f0 f2 s0 s1 (length s.turns) rest [] []) fault
-    → PipeRun leads start held unbounded site (record { before = left; now = now; ended = ended; faults_before = f0; faults_now = f2 })
-    (record { before = taken; now = taken_now; faults_before = s0; faults_now = s1 }) (gave clock mid) told fault
-full gave leads start held site told left middle now taken taken_now clock mid ended f0 f2 s0 s1 rest fault served all s read reads writes ending = record {
-  turns = s.turns;
-  behind = held;
-  left = unbounded;
-  still = unbounded;
-  rest = rest;
-  part = [];
-  late = [];
-  passed = s.passed;
-  few = omega (arith, s.count);
-  read = Takes-append left middle now (bytes_of s.turns) rest s.read read;
-  written = rw append-nil s.written;
-  moments = rw append-nil s.moments;
-  briefs = s.briefs;
-  reads = reads;
-  writes = writes;
-  ending = ending;
-}
+    → EndsBy (leads held held) site (ending_behind left now taken taken_now more more ended f0 f2 s0 s1 (length s.turns) rest [] []) fault
+    → (run : PipeRun leads start held allowed site (record { before = left; now = now; ended = ended; faults_before = f0; faults_now = f2 })
+    (record { before = taken; now = taken_now; faults_before = s0; faults_now = s1 }) (gave clock mid) told fault) × (run.still ≡ more)
+full gave leads start held allowed more site told left middle now taken taken_now clock mid ended f0 f2 s0 s1 rest fault served all s read reads writes ending = (
+  record {
+    turns = s.turns;
+    behind = held;
+    left = more;
+    still = more;
+    rest = rest;
+    part = [];
+    late = [];
+    passed = s.passed;
+    few = omega (arith, s.count);
+    read = Takes-append left middle now (bytes_of s.turns) rest s.read read;
+    written = rw append-nil s.written;
+    moments = rw append-nil s.moments;
+    briefs = s.briefs;
+    reads = reads;
+    writes = writes;
+    ending = ending;
+  },
+  refl,
+)
 
 -- all packets of a run were served, and one further byte was looked for
 pub run_is_full : {S Clk : Type 0} (gave : Clk → Clk → List ℕ → Type 0)
-    (leads : S → S → List Asking → ℕ → Type 0) (start held : S) (site : Site) (told : List Brief) (left middle now taken taken_now : Option (List ℕ)) (clock mid : Clk)
+    (leads : S → S → List Asking → ℕ → Type 0) (start held : S) (allowed more : Option (List ℕ)) (site : Site) (told : List Brief)
+    (left middle now taken taken_now : Option (List ℕ)) (clock mid : Clk)
     (ended : Bool) (f0 f1 f2 s0 s1 : ℕ) (fault : Option RunFault) (served : ℕ)
-    → f1 ≡ f0 → s1 ≡ s0 → HasCause f1 f2 (has_failed_to_read fault) → served ≡ most_packets → leads held held [] 0
-    → SoFar leads start site held told left middle taken taken_now (gave clock mid) served
+    → f1 ≡ f0 → s1 ≡ s0 → HasCause f1 f2 (has_failed_to_read fault) → served ≡ most_packets → leads held held [] 0 → Spends more more 0
+    → SoFar leads start allowed site held more told left middle taken taken_now (gave clock mid) served
     → LooksFurther (record { before = middle; now = now; ended = ended; faults_before = f1; faults_now = f2 }) fault
-    → PipeRun leads start held unbounded site (record { before = left; now = now; ended = ended; faults_before = f0; faults_now = f2 })
-    (record { before = taken; now = taken_now; faults_before = s0; faults_now = s1 }) (gave clock mid) told fault
-run_is_full gave leads start held site told left middle now taken taken_now clock mid ended f0 f1 f2 s0 s1 None served lf ls reads all none s t =
-    full gave leads start held site told left middle now taken taken_now clock mid ended f0 f2 s0 s1 [] None served all s t.0
+    → (run : PipeRun leads start held allowed site (record { before = left; now = now; ended = ended; faults_before = f0; faults_now = f2 })
+    (record { before = taken; now = taken_now; faults_before = s0; faults_now = s1 }) (gave clock mid) told fault) × (run.still ≡ more)
+run_is_full gave leads start held allowed more site told left middle now taken taken_now clock mid ended f0 f1 f2 s0 s1 None served lf ls reads all none spent s t =
+    full gave leads start held allowed more site told left middle now taken taken_now clock mid ended f0 f2 s0 s1 [] None served all s t.0
     (HasCause-then f0 f1 f2 false lf reads) (HasCause-none s0 s1 ls)
-    (refl, t.1, inr (s.count ∙ all, refl, refl), (none, refl))
-run_is_full gave leads start held site told left middle now taken taken_now clock mid ended f0 f1 f2 s0 s1 (Some faults.TooMany) served lf ls reads all none s t =
-    full gave leads start held site told left middle now taken taken_now clock mid ended f0 f2 s0 s1 (t.0 ∷ []) (Some faults.TooMany) served all s t.1
+    (refl, t.1, inr (s.count ∙ all, refl, refl), (none, spent))
+run_is_full gave leads start held allowed more site told left middle now taken taken_now clock mid ended f0 f1 f2 s0 s1 (Some faults.TooMany) served lf ls reads all none spent s t =
+    full gave leads start held allowed more site told left middle now taken taken_now clock mid ended f0 f2 s0 s1 (t.0 ∷ []) (Some faults.TooMany) served all s t.1
     (HasCause-then f0 f1 f2 false lf reads) (HasCause-none s0 s1 ls)
-    (refl, (s.count ∙ all, refl, refl), (none, refl))
-run_is_full gave leads start held site told left middle now taken taken_now clock mid ended f0 f1 f2 s0 s1 (Some faults.ReadFault) served lf ls reads all none s t =
-    full gave leads start held site told left middle now taken taken_now clock mid ended f0 f2 s0 s1 [] (Some faults.ReadFault) served all s t.0
+    (refl, (s.count ∙ all, refl, refl), (none, spent))
+run_is_full gave leads start held allowed more site told left middle now taken taken_now clock mid ended f0 f1 f2 s0 s1 (Some faults.ReadFault) served lf ls reads all none spent s t =
+    full gave leads start held allowed more site told left middle now taken taken_now clock mid ended f0 f2 s0 s1 [] (Some faults.ReadFault) served all s t.0
     (HasCause-then f0 f1 f2 true lf reads) (HasCause-none s0 s1 ls)
-    (rose_since f0 f1 f2 (omega (arith, lf)) t.1, inr ((s.count ∙ all, refl, refl), refl), (none, refl))
-run_is_full gave leads start held site told left middle now taken taken_now clock mid ended f0 f1 f2 s0 s1 (Some _) served lf ls reads all none s t = absurd t
+    (rose_since f0 f1 f2 (omega (arith, lf)) t.1, inr ((s.count ∙ all, refl, refl), refl), (none, spent))
+run_is_full gave leads start held allowed more site told left middle now taken taken_now clock mid ended f0 f1 f2 s0 s1 (Some _) served lf ls reads all none spent s t = absurd t
 
 -- a run that found no memory before its first packet
 pub nothing_done : {S Clk : Type 0} (gave : Clk → Clk → List ℕ → Type 0) (gave_none : (clock : Clk) → gave clock clock [])

@@ -2,7 +2,9 @@
 use Rattle.std.specs.Prelude.{◌≡◌, ℕ, ◌+◌, ◌<◌, ◌≤◌, ◌⊎◌, Bool, true, false, List, [], ◌∷◌, length, Option, None, Some, Result, Ok, Err}
 use Rattle.uw_outside.specs.Faults.{Rose}
 use Rattle.uw_outside.specs.Streams.{Takes}
-use Rattle.uw_outside.specs.Streams.{Inflow}
+use Rattle.uw_outside.specs.Streams.{Inflow, Outflow}
+use Rattle.uw_keeper.specs.Keeping.{Keeping}
+use Rattle.uw_model.specs.Lists.{Lists}
 use Rattle.uw_packet.specs.Reads.{IsOver}
 use Rattle.uw_conf.specs.declared.conf.Conf.{Conf}
 use Rattle.uw_conf.specs.declared.conf.ConfFault.{ConfFault}
@@ -23,16 +25,10 @@ use Rattle.uw_ends.specs.declared.words.Command.{Command}
 use Rattle.uw_ends.specs.declared.words.Command.TheVariants as commands
 use Rattle.uw_ends.specs.declared.ends.RunFault.{RunFault}
 use Rattle.uw_ends.specs.declared.ends.RunFault.TheVariants as faults
-
--- a command that is built: `pipe` without deaths, `spool`, or `load`
-abbrev pub is_built : Option Command → Bool
-is_built None = false
-is_built (Some (commands.Pipe [])) = true
-is_built (Some (commands.Pipe (death ∷ deaths))) = false
-is_built (Some commands.Spool) = true
-is_built (Some commands.Steps) = false
-is_built (Some (commands.Load first count)) = true
-is_built (Some commands.Serve) = false
+use Rattle.uw_ends.specs.declared.ends.RunEnd.{RunEnd}
+use Rattle.uw_top.specs.Load.{LoadRun}
+use Rattle.uw_top.specs.Pipe.{PipeRun, both_lead, first_lists, list_leads, unbounded}
+use Rattle.uw_top.specs.Spool.{SpoolRun}
 
 -- what a text says, or why it is refused, where the maker of patterns had these counts of faults before and after
 abbrev pub IsSaid : (before after : ℕ) → List ℕ → Result Conf ConfFault → Type 0
@@ -74,9 +70,68 @@ site_of text options = record {
   task_rules = table_of (rule_lines_of tables.Tasks (lines text));
 }
 
--- a command over the configuration that a text says, of whose run this holds; or it did not begin, and left all else as it was; the maker of patterns had these counts of
--- faults before and after
+-- a command over the configuration that a text says, of whose run this holds; or it did not begin, and left all else as it was; the maker of patterns had these
+-- counts of faults before and after
 abbrev pub Runs : (before after : ℕ) → (ℕ → ℕ → List ℕ → Result Conf ConfFault → Type 0) → Inflow → Type 0 → Option RunFault → (Site → Type 0) → Type 0
 Runs before after said r untouched fault Ran =
     ((text : List ℕ) × (conf : Conf) × ReadsText r text × said before after text (Ok conf) × Ran (site_of text (options_in conf)))
     ⊎ (IsNotBegun before after said r fault × untouched)
+
+-- ---- the commands
+
+-- what a run has around it, over the call: its configuration, and how many patterns the maker had refused before and now; its source and its sink; which moments
+-- its clock gave; and what its keeper keeps before and now
+pub record Surroundings : Type 1 where
+  pub conf : Inflow
+  pub refused : ℕ
+  pub refused_now : ℕ
+  pub src : Inflow
+  pub snk : Outflow
+  pub gave : List ℕ → Type 0
+  pub kept : Keeping
+  pub left : Keeping
+
+-- that each object of a run is as it was
+pub record Sameness : Type 1 where
+  pub conf : Type 0
+  pub make : Type 0
+  pub src : Type 0
+  pub snk : Type 0
+  pub clock : Type 0
+  pub keep : Type 0
+
+-- all but the configuration and the maker of patterns is as it was, and no packet is told of
+abbrev pub IsUntouched : Sameness → RunEnd → Type 0
+IsUntouched same end = same.src × same.snk × same.clock × same.keep × (end.briefs ≡ [])
+
+-- other words, or words for which there was no memory: nothing was read, and all is as it was
+abbrev pub RefusesCommand : Sameness → RunEnd → Type 0
+RefusesCommand same end = ((end.fault ≡ Some faults.Usage) ⊎ (end.fault ≡ Some faults.Memory)) × same.conf × same.make × IsUntouched same end
+
+-- the command `pipe`: packets are answered over the plain lists of the site, by a worker that never dies
+abbrev pub Pipes : Surroundings → Sameness → RunEnd → Type 0
+Pipes s same end =
+    Runs s.refused s.refused_now IsSaid s.conf (IsUntouched same end) end.fault
+    (λ site. (lists : Lists) × PipeRun (both_lead list_leads) (first_lists site.options, s.kept) (lists, s.left) unbounded site s.src s.snk s.gave end.briefs end.fault)
+
+-- the command `spool`: the rounds of all spoolers over the rows of the keeper
+abbrev pub Spools : Surroundings → Sameness → RunEnd → Type 0
+Spools s same end =
+    Runs s.refused s.refused_now IsSaid s.conf (IsUntouched same end) end.fault
+    (λ site. same.src × (end.briefs ≡ []) × ((lists : Lists) × SpoolRun list_leads (first_lists site.options) lists s.kept s.left site s.snk s.gave end.fault))
+
+-- the command `load`: packets that it makes itself, and figures of their replies
+abbrev pub Loads : ℕ → ℕ → Surroundings → Sameness → RunEnd → Type 0
+Loads first count s same end =
+    Runs s.refused s.refused_now IsSaidWithACache s.conf (IsUntouched same end) end.fault
+    (λ site. same.src × same.keep × (end.briefs ≡ []) × LoadRun site.options first count s.snk s.gave end.fault)
+
+-- what a run did, by its command; `pipe` with deaths, `steps` and `serve` are not built here, and are refused as other words are
+abbrev pub Does : Option Command → Surroundings → Sameness → RunEnd → Type 0
+Does (Some (commands.Pipe [])) s same end = Pipes s same end
+Does (Some (commands.Pipe (death ∷ deaths))) s same end = RefusesCommand same end
+Does (Some commands.Spool) s same end = Spools s same end
+Does (Some (commands.Load first count)) s same end = Loads first count s same end
+Does (Some commands.Steps) s same end = RefusesCommand same end
+Does (Some commands.Serve) s same end = RefusesCommand same end
+Does None s same end = RefusesCommand same end

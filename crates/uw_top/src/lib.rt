@@ -8,5 +8,6 @@ mod pipe;
 mod runs;
 mod spool;
 
+pub use pipe::serve_packets;
 pub use runs::run;
 pub use uw_ends::{BadPacket, Brief, BriefList, RunEnd, RunFault, fault_text};

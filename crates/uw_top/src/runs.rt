@@ -16,11 +16,11 @@ ghost use Rattle.uw_top.specs.Load.{LoadRun};
 ghost use Rattle.uw_session.specs.Exchange.{IsSiteOf, Site};
 ghost use Rattle.uw_top.specs.Pipe.{PipeRun, both_lead, first_lists, list_leads, unbounded};
 ghost use Rattle.uw_top.specs.Spool.{SpoolRun};
-ghost use Rattle.uw_top.specs.Run.{Runs, IsSaid, IsSaidWithACache, is_built};
+ghost use Rattle.uw_top.specs.Run.{Does, Runs, IsSaid, IsSaidWithACache};
 
 use crate::configuration::{configuration, configuration_with_a_cache};
 use crate::load::load;
-use crate::pipe::serve;
+use crate::pipe::serve_packets;
 use crate::spool::spooled;
 use std::alloc::Global;
 use uw_chain::Searches;
@@ -28,7 +28,7 @@ use uw_conf::Conf;
 use uw_ends::{BriefList, Command, RunEnd, RunFault, WordsFault, read_words};
 use uw_keeper::Keeper;
 use uw_model::ListDesk;
-use uw_outside::{Clock, Sink, Source};
+use uw_outside::{Clock, Fuse, Sink, Source};
 use uw_rules::Patterns;
 
 /// Does all that the program does. It reads the words of a command and a configuration, whose patterns `make` compiles.
@@ -46,32 +46,25 @@ pub fn run<F: Source, M: Patterns, S: Source, K: Sink, C: Clock, P: Keeper>(
     keep: &mut P,
 ) -> RunEnd
     ensures status { result.status ≡ status_of result.fault }
-
-    // Other words are refused, before anything is read.
-    ensures usage { is_built (command_of (map string_bytes words.now)) ≡ false → (result.fault ≡ Some faults.Usage) ⊎ (result.fault ≡ Some faults.Memory) }
-    ensures untouched { is_built (command_of (map string_bytes words.now)) ≡ false
-        → (conf.new ≡ conf.old) × (make.new ≡ make.old) × (src.new ≡ src.old) × (snk.new ≡ snk.old) × (clock.new ≡ clock.old) × (keep.new ≡ keep.old) × (result.briefs ≡ []) }
-
-    // What was read, what was written for it, and why it ended there.
-    ensures pipes { command_of (map string_bytes words.now) ≡ Some (commands.Pipe []) → Runs (M.faults make.old) (M.faults make.new) IsSaid
-        (inflow F.left F.ended F.faults conf.old conf.new)
-        ((src.new ≡ src.old) × (snk.new ≡ snk.old) × (clock.new ≡ clock.old) × (keep.new ≡ keep.old) × (result.briefs ≡ [])) result.fault
-        (λ site. (lists : Lists) × PipeRun (both_lead list_leads) (first_lists site.options, keeping P.rows P.append_faults P.other_faults keep.old) (lists, keeping P.rows P.append_faults P.other_faults keep.new) unbounded site
-        (inflow S.left S.ended S.faults src.old src.new)
-        (outflow K.taken K.faults snk.old snk.new)
-        (C.gave clock.old clock.new) result.briefs result.fault) }
-    ensures loads { (first count : ℕ) → command_of (map string_bytes words.now) ≡ Some (commands.Load first count) → Runs (M.faults make.old) (M.faults make.new) IsSaidWithACache
-        (inflow F.left F.ended F.faults conf.old conf.new)
-        ((src.new ≡ src.old) × (snk.new ≡ snk.old) × (clock.new ≡ clock.old) × (keep.new ≡ keep.old) × (result.briefs ≡ [])) result.fault
-        (λ site. (src.new ≡ src.old) × (keep.new ≡ keep.old) × (result.briefs ≡ []) × LoadRun site.options first count
-        (outflow K.taken K.faults snk.old snk.new)
-        (C.gave clock.old clock.new) result.fault) }
-    ensures spools { command_of (map string_bytes words.now) ≡ Some commands.Spool → Runs (M.faults make.old) (M.faults make.new) IsSaid
-        (inflow F.left F.ended F.faults conf.old conf.new)
-        ((src.new ≡ src.old) × (snk.new ≡ snk.old) × (clock.new ≡ clock.old) × (keep.new ≡ keep.old) × (result.briefs ≡ [])) result.fault
-        (λ site. (src.new ≡ src.old) × (result.briefs ≡ []) × ((lists : Lists) × SpoolRun list_leads (first_lists site.options) lists (keeping P.rows P.append_faults P.other_faults keep.old) (keeping P.rows P.append_faults P.other_faults keep.new) site
-        (outflow K.taken K.faults snk.old snk.new)
-        (C.gave clock.old clock.new) result.fault)) }
+    ensures does { Does (command_of (map string_bytes words.now))
+        (record {
+          conf = inflow F.left F.ended F.faults conf.old conf.new;
+          refused = M.faults make.old;
+          refused_now = M.faults make.new;
+          src = inflow S.left S.ended S.faults src.old src.new;
+          snk = outflow K.taken K.faults snk.old snk.new;
+          gave = C.gave clock.old clock.new;
+          kept = keeping P.rows P.append_faults P.other_faults keep.old;
+          left = keeping P.rows P.append_faults P.other_faults keep.new;
+        })
+        (record {
+          conf = conf.new ≡ conf.old;
+          make = make.new ≡ make.old;
+          src = src.new ≡ src.old;
+          snk = snk.new ≡ snk.old;
+          clock = clock.new ≡ clock.old;
+          keep = keep.new ≡ keep.old;
+        }) result }
 {
     match read_words(alloc, words) {
         Ok(Command::Pipe { die }) => {
@@ -146,11 +139,13 @@ fn piped<S: Source, K: Sink, C: Clock, P: Keeper>(
         Ok(searches) => searches,
         Err(_) => return refused(alloc, RunFault::Memory),
     };
+    let mut life = Fuse::new(Vec::new(alloc));
     let mut briefs = Vec::new(alloc);
-    let fault = serve(
+    let fault = serve_packets(
         alloc,
         &mut searches,
         &conf,
+        &mut life,
         &mut desk,
         keep,
         &mut briefs,

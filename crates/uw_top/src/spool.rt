@@ -22,7 +22,7 @@ use uw_chain::Searches;
 use uw_conf::Conf;
 use uw_ends::RunFault;
 use uw_keeper::Keeper;
-use uw_model::{Desk, ListDesk};
+use uw_model::{Desk, ListDesk, OwnDesk};
 use uw_outside::{Clock, Immortal, Sink, put_all};
 use uw_spool::{Outcome, RoundFault, RoundReport, TaskLine, round_with};
 
@@ -190,7 +190,7 @@ fn run_round<'c, K: Sink, D: Desk, P: Keeper>(
 
 /// Runs the rounds of all spoolers of a configuration, one after the other, at one moment, and writes the lines of each
 /// by one write where the sink takes it whole. Where the keeper failed, the rows that its round reports are written.
-pub fn spool<'c, K: Sink, D: Desk, P: Keeper>(
+pub fn spool<'c, K: Sink, D: OwnDesk, P: Keeper>(
     alloc: Global,
     searches: &mut Searches<'c>,
     conf: &'c Conf,
@@ -201,7 +201,12 @@ pub fn spool<'c, K: Sink, D: Desk, P: Keeper>(
 ) -> Option<RunFault>
     requires fits { FitTable conf.now.tasks searches.old }
     requires known { AskPartsBelow (D.parts desk.old) (rules_of conf.now.tasks) }
-    ensures spools { (site : Site) → IsSiteOf conf.now site → RoundsRun D.leads site now desk.old desk.new (keeping P.rows P.append_faults P.other_faults keep.old) (keeping P.rows P.append_faults P.other_faults keep.new)
+    ensures spools { (site : Site) → IsSiteOf conf.now site → RoundsRun D.leads site now desk.old desk.new
+        (keeping P.rows P.append_faults P.other_faults keep.old) (keeping P.rows P.append_faults P.other_faults keep.new)
+        (outflow K.taken K.faults snk.old snk.new) result }
+    ensures stands { (site : Site) (lists : Lists) → IsSiteOf conf.now site → D.stands desk.old lists
+        → (after : Lists) × D.stands desk.new after × RoundsRun list_leads site now lists after
+        (keeping P.rows P.append_faults P.other_faults keep.old) (keeping P.rows P.append_faults P.other_faults keep.new)
         (outflow K.taken K.faults snk.old snk.new) result }
     ensures fits { FitTable conf.now.tasks searches.new }
 {

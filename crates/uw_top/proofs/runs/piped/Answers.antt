@@ -1,4 +1,5 @@
-use Rattle.std.proofs.Common.{◌≡◌, refl, sym, ap, subst, ◌∙◌, List}
+use Rattle.std.proofs.Common.{◌≡◌, ℕ, refl, sym, ap, subst, ◌∙◌, ◌-◌, List, map, Option, Some}
+use Rattle.uw_outside.specs.Lives.{LifeLeft}
 use Rattle.uw_outside.specs.Streams.{inflow, outflow}
 use Rattle.uw_keeper.specs.Keeping.{Keeping, keeping}
 use Rattle.uw_model.specs.Lists.{Lists}
@@ -25,27 +26,26 @@ returns-in-Err-new-clause-pipes g c = λ site is.
     let start : Lists × Keeping = (first_lists site.options, keeping g.P.Keeper.rows g.P.Keeper.append_faults g.P.Keeper.other_faults c.args.keep.now) in
     rw c.refused-in-Err-new.ensures (first_lists site.options, nothing_done g.C.Clock.gave g.met.C.Clock.gave_none (both_lead list_leads) start site _ _ c.args.clock.now _ _ _ (refl, kept_none start.1))
 
-pub serve-fault-requires-clause-known : goal.serve-fault-requires-clause-known
-serve-fault-requires-clause-known g c =
+pub serve_packets-fault-requires-clause-known : goal.serve_packets-fault-requires-clause-known
+serve_packets-fault-requires-clause-known g c =
     subst (λ (parts : DeskParts). AskPartsBelow parts (rules_of c.args.conf.routes)) (sym (empty_parts c.args.conf c.in-Ok.desk c.in-Ok.ensures)) c.requires.known
 
-pub serve-fault-requires-clause-enough : goal.serve-fault-requires-clause-enough
-serve-fault-requires-clause-enough g c =
+pub serve_packets-fault-requires-clause-enough : goal.serve_packets-fault-requires-clause-enough
+serve_packets-fault-requires-clause-enough g c =
     subst (λ (parts : DeskParts). HasParts parts c.args.conf) (sym (empty_parts c.args.conf c.in-Ok.desk c.in-Ok.ensures)) (has_own_parts c.args.conf)
 
 pub returns-clause-pipes : goal.returns-clause-pipes
 returns-clause-pipes g c = λ site is.
-    let src = inflow g.S.Source.left g.S.Source.ended g.S.Source.faults c.args.src.now c.serve-fault.new.src in
-    let snk = outflow g.K.Sink.taken g.K.Sink.faults c.args.snk.now c.serve-fault.new.snk in
-    let gave = g.C.Clock.gave c.args.clock.now c.serve-fault.new.clock in
+    let src = inflow g.S.Source.left g.S.Source.ended g.S.Source.faults c.args.src.now c.serve_packets-fault.new.src in
+    let snk = outflow g.K.Sink.taken g.K.Sink.faults c.args.snk.now c.serve_packets-fault.new.snk in
+    let gave = g.C.Clock.gave c.args.clock.now c.serve_packets-fault.new.clock in
     let kept : Keeping = keeping g.P.Keeper.rows g.P.Keeper.append_faults g.P.Keeper.other_faults c.args.keep.now in
-    let left : Keeping = keeping g.P.Keeper.rows g.P.Keeper.append_faults g.P.Keeper.other_faults c.serve-fault.new.keep in
-    let behind : Lists = c.serve-fault.new.desk in
+    let left : Keeping = keeping g.P.Keeper.rows g.P.Keeper.append_faults g.P.Keeper.other_faults c.serve_packets-fault.new.keep in
     let empty : c.in-Ok.desk ≡ first_lists site.options = c.in-Ok.ensures ∙ ap (λ (options : Options). first_lists options) is.options in
-    let Ran : Lists → Type 0 = λ lists.
-    PipeRun (both_lead list_leads) (lists, kept) (behind, left) unbounded site src snk gave c.serve-fault.new.briefs.items c.serve-fault.result in
-    let ran : Ran c.in-Ok.desk = c.serve-fault.ensures site is in
-    let begun : Ran (first_lists site.options) = subst Ran empty ran in
+    let ran = c.serve_packets-fault.ensures.stands site (first_lists site.options) is empty in
+    let Allowed : Option (List ℕ) → Type 0 = λ allowed.
+    PipeRun (both_lead list_leads) (first_lists site.options, kept) (ran.0, left) allowed site src snk gave c.serve_packets-fault.new.briefs.items c.serve_packets-fault.result in
+    let undying : Allowed unbounded = subst Allowed (ap (λ (life : LifeLeft). Some life.allowances) c.new-life.ensures ∙ ap (λ (numbers : List ℕ). Some (map (λ n. n - 1) numbers)) c.new-3.ensures.items) ran.2.0 in
     let Told : List Brief → Type 0 = λ briefs.
-    PipeRun (both_lead list_leads) (first_lists site.options, kept) (behind, left) unbounded site src snk gave briefs c.serve-fault.result in
-    rw c.new-3.ensures (behind, subst Told (sym c.from_vec.ensures) begun)
+    PipeRun (both_lead list_leads) (first_lists site.options, kept) (ran.0, left) unbounded site src snk gave briefs c.serve_packets-fault.result in
+    rw c.new-4.ensures (ran.0, subst Told (sym c.from_vec.ensures) undying)
