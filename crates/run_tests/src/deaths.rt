@@ -1,9 +1,15 @@
 // The machine of `pipe` over a desk whose worker dies.
+ghost use Rattle.std.specs.Prelude.{◌≡◌, true};
+ghost use Rattle.uw_rules.specs.PartNumbers.{AskPartsBelow};
+ghost use Rattle.uw_rules.specs.Compiled.{rules_of};
+ghost use Rattle.uw_conf.specs.Given.{parts_in};
+ghost use Rattle.uw_conf.specs.Sound.{ArePartsOfSite};
+
 use crate::mortal::MortalDesk;
 use std::alloc::{AllocError, Global};
 use std::test::Fail;
 use uw_chain::Searches;
-use uw_conf::read_conf;
+use uw_conf::{Conf, read_conf};
 use uw_keeper::MemKeeper;
 use uw_model::ListDesk;
 use uw_outside::{BytesIn, BytesOut, FixedClock, Fuse};
@@ -35,48 +41,40 @@ struct Report {
     fault: Option<RunFault>,
 }
 
-// Packets that are served by a worker that dies at these word writes, each of which is counted from the one before it.
-fn served(
+// Packets that are served over a configuration, by a worker with this life.
+fn served_over(
     alloc: Global,
-    packets: &[&[u8]],
-    deaths: &[u64],
-    write_fails: &[u64],
-) -> Result<Report, AllocError> {
-    let mut make = RegexPatterns::new(Vec::new(alloc));
-    let Ok(conf) = read_conf(alloc, ONE_CACHE, &mut make) else {
-        return Err(AllocError);
+    conf: Conf,
+    input: Vec<u8>,
+    life: &mut Fuse,
+    snk: &mut BytesOut,
+) -> Result<Report, AllocError>
+    requires parts { ArePartsOfSite conf.caches conf.areas }
+    requires known { AskPartsBelow (parts_in conf) (rules_of conf.routes) }
+    requires alive { life.old.alive ≡ true }
+{
+    let mut desk = match ListDesk::new(alloc, &conf.caches, &conf.areas) {
+        Ok(lists) => MortalDesk { lists },
+        Err(_) => return Err(AllocError),
     };
-    let Ok(lists) = ListDesk::new(alloc, &conf.caches, &conf.areas) else {
-        return Err(AllocError);
+    let mut searches = match Searches::new(alloc, &conf.routes) {
+        Ok(searches) => searches,
+        Err(_) => return Err(AllocError),
     };
-    let Ok(mut searches) = Searches::new(alloc, &conf.routes) else {
-        return Err(AllocError);
-    };
-    let mut input = Vec::new(alloc);
-    for packet in packets {
-        input.extend_from_slice(packet)?;
-    }
-    let mut moments = Vec::new(alloc);
-    for moment in 10..20 {
-        moments.push(moment)?;
-    }
-    let mut desk = MortalDesk::new(lists);
-    let mut life = Fuse::new(deaths.to_vec(alloc)?);
+    let mut src = BytesIn::new(input, Vec::new(alloc));
+    let mut clock = FixedClock::new([10, 11, 12, 13].to_vec(alloc)?);
     let mut keep = MemKeeper::new(Vec::new(alloc), Vec::new(alloc));
     let mut briefs = Vec::new(alloc);
-    let mut src = BytesIn::new(input, Vec::new(alloc));
-    let mut snk = BytesOut::new(Vec::new(alloc), write_fails.to_vec(alloc)?);
-    let mut clock = FixedClock::new(moments);
     let fault = serve_packets(
         alloc,
         &mut searches,
         &conf,
-        &mut life,
+        life,
         &mut desk,
         &mut keep,
         &mut briefs,
         &mut src,
-        &mut snk,
+        snk,
         &mut clock,
     );
     Ok(Report {
@@ -84,6 +82,24 @@ fn served(
         briefs,
         fault,
     })
+}
+
+// Packets that are served by a worker with this life, where these writes of frames fail.
+fn served(
+    alloc: Global,
+    packets: &[&[u8]],
+    life: &mut Fuse,
+    write_fails: &[u64],
+) -> Result<Report, AllocError>
+    requires { life.old.alive ≡ true }
+{
+    let input = joined(alloc, packets)?;
+    let mut snk = BytesOut::new(Vec::new(alloc), write_fails.to_vec(alloc)?);
+    let mut make = RegexPatterns::new(Vec::new(alloc));
+    match read_conf(alloc, ONE_CACHE, &mut make) {
+        Ok(conf) => served_over(alloc, conf, input, life, &mut snk),
+        Err(_) => Err(AllocError),
+    }
 }
 
 // The frames that follow one another.
@@ -99,7 +115,12 @@ fn joined(alloc: Global, frames: &[&[u8]]) -> Result<Vec<u8>, AllocError> {
 #[test]
 fn a_death_is_told_and_the_next_packet_is_served(rt: HostRuntime) -> Result<(), Fail> {
     let alloc = rt.alloc();
-    let report = served(alloc, &[SET, SET, GET], &[1, 2], &[])?;
+    let report = served(
+        alloc,
+        &[SET, SET, GET],
+        &mut Fuse::new([1, 2].to_vec(alloc)?),
+        &[],
+    )?;
     let frames = joined(alloc, &[DEAD_ABSENT, DEAD_WHOLE, VALUE])?;
     assert_eq!(rt; report.output.as_slice(), frames.as_slice());
     assert_eq!(rt; report.fault, None);
@@ -124,7 +145,12 @@ fn a_death_is_told_and_the_next_packet_is_served(rt: HostRuntime) -> Result<(), 
 #[test]
 fn a_call_that_died_before_it_counted_left_nothing(rt: HostRuntime) -> Result<(), Fail> {
     let alloc = rt.alloc();
-    let report = served(alloc, &[SET, GET, SET, GET], &[1], &[])?;
+    let report = served(
+        alloc,
+        &[SET, GET, SET, GET],
+        &mut Fuse::new([1].to_vec(alloc)?),
+        &[],
+    )?;
     let frames = joined(alloc, &[DEAD_ABSENT, MISSING, OK, VALUE])?;
     assert_eq!(rt; report.output.as_slice(), frames.as_slice());
     Ok(())
@@ -134,7 +160,12 @@ fn a_call_that_died_before_it_counted_left_nothing(rt: HostRuntime) -> Result<()
 #[test]
 fn a_worker_dies_as_often_as_it_has_numbers(rt: HostRuntime) -> Result<(), Fail> {
     let alloc = rt.alloc();
-    let report = served(alloc, &[GET, GET, GET, GET], &[2, 1, 2], &[])?;
+    let report = served(
+        alloc,
+        &[GET, GET, GET, GET],
+        &mut Fuse::new([2, 1, 2].to_vec(alloc)?),
+        &[],
+    )?;
     let frames = joined(alloc, &[DEAD_WHOLE, DEAD_ABSENT, DEAD_WHOLE, MISSING])?;
     assert_eq!(rt; report.output.as_slice(), frames.as_slice());
     Ok(())
@@ -143,7 +174,12 @@ fn a_worker_dies_as_often_as_it_has_numbers(rt: HostRuntime) -> Result<(), Fail>
 #[test]
 fn a_death_that_cannot_be_told_is_a_write_fault(rt: HostRuntime) -> Result<(), Fail> {
     let alloc = rt.alloc();
-    let report = served(alloc, &[GET, SET, GET], &[3], &[2])?;
+    let report = served(
+        alloc,
+        &[GET, SET, GET],
+        &mut Fuse::new([3].to_vec(alloc)?),
+        &[2],
+    )?;
     assert_eq!(rt; report.output.as_slice(), MISSING);
     assert_eq!(rt; report.fault, Some(RunFault::WriteFault));
     assert_eq!(rt; report.briefs.len(), 1);

@@ -8,39 +8,22 @@ ghost use Rattle.uw_model.specs.Asks.{Asking, Calls, has_died};
 ghost use Rattle.uw_model.specs.Lists.{LeadsLists, LeadsLists-append, Lists, parts_of};
 
 use std::alloc::Global;
-use std::marker::Model;
 use uw_model::{Answer, AreaAnswer, AreaOp, Call, Desk, DeskFault, ListDesk, OwnDesk};
 use uw_outside::{Immortal, Life};
 
-// A desk over plain lists that asks the life twice for each call: a worker that is refused first dies before its call
-// counts, and one that is refused behind it when it counts.
+/// A desk over plain lists that asks the life before and behind each call of a cache: a worker that is refused first
+/// dies before its call counts, and one that is refused behind it when it counts.
 #[derive(Drop)]
 pub struct MortalDesk {
-    lists: ListDesk,
-}
-
-impl Model for MortalDesk {
-    ghost use Rattle.uw_model.specs.Lists.{Lists};
-
-    ghost Value = { Lists };
-
-    ghost view = { λ d. d.lists };
-}
-
-impl MortalDesk {
-    pub fn new(lists: ListDesk) -> MortalDesk
-        ensures { result ≡ lists }
-    {
-        MortalDesk { lists }
-    }
+    pub lists: ListDesk,
 }
 
 impl Desk for MortalDesk {
-    ghost parts = { λ d. parts_of d };
+    ghost parts = { λ d. parts_of d.lists };
 
     ghost settled = { λ _. true };
 
-    ghost leads = { λ before now asked _. LeadsLists before asked now };
+    ghost leads = { λ before now asked _. LeadsLists before.lists asked now.lists };
 
     fn cache<L: Life>(
         &mut self,
@@ -49,17 +32,32 @@ impl Desk for MortalDesk {
         moment: u64,
         call: &Call,
         life: &mut L,
-    ) -> Result<Answer, DeskFault> {
+    ) -> Result<Answer, DeskFault>
+        requires known { cache < length self.old.lists.caches }
+        requires alive { L.alive life.old ≡ true }
+        ensures asked { Calls (λ answer. ask_answers.Cache answer)
+            (λ (asked : List Asking) (_ : ℕ). LeadsLists self.old.lists asked self.new.lists)
+            (L.allowances life.old) (L.allowances life.new) moment (asks.Cache cache call.now) result }
+        ensures cause { HasCause (L.deaths life.old) (L.deaths life.new) (has_died result) }
+        ensures alive { L.alive life.new ≡ not (has_died result) }
+        ensures parts { parts_of self.new.lists ≡ parts_of self.old.lists }
+    {
         if !life.may_write() {
             return Err(DeskFault::Died { whole: false });
         }
-        let answer = self
+        match self
             .lists
-            .cache(alloc, cache, moment, call, &mut Immortal::new())?;
-        if !life.may_write() {
-            return Err(DeskFault::Died { whole: true });
+            .cache(alloc, cache, moment, call, &mut Immortal::new())
+        {
+            Ok(answer) => {
+                if life.may_write() {
+                    Ok(answer)
+                } else {
+                    Err(DeskFault::Died { whole: true })
+                }
+            }
+            Err(fault) => Err(fault),
         }
-        Ok(answer)
     }
 
     fn area<L: Life>(
@@ -68,18 +66,28 @@ impl Desk for MortalDesk {
         area: u32,
         op: &AreaOp,
         life: &mut L,
-    ) -> Result<AreaAnswer, DeskFault> {
+    ) -> Result<AreaAnswer, DeskFault>
+        requires known { area < length self.old.lists.areas }
+        requires alive { L.alive life.old ≡ true }
+        ensures asked { (moment : ℕ) → Calls (λ answer. ask_answers.Area answer)
+            (λ (asked : List Asking) (_ : ℕ). LeadsLists self.old.lists asked self.new.lists)
+            (L.allowances life.old) (L.allowances life.new) moment (asks.Area area op.now) result }
+        ensures cause { HasCause (L.deaths life.old) (L.deaths life.new) (has_died result) }
+        ensures alive { L.alive life.new ≡ not (has_died result) }
+        ensures parts { parts_of self.new.lists ≡ parts_of self.old.lists }
+    {
         self.lists.area(alloc, area, op, life)
     }
 
     ghost leads_none = { λ desk. refl };
 
-    ghost leads_more = { λ a b c early late first more. LeadsLists-append a b c early late };
+    ghost leads_more = { λ a b c early late first more.
+        LeadsLists-append a.lists b.lists c.lists early late };
 }
 
 impl OwnDesk for MortalDesk {
-    ghost stands = { λ desk lists. desk ≡ lists };
+    ghost stands = { λ desk lists. desk.lists ≡ lists };
 
     ghost stands_on = { λ a b asked writes lists led same.
-        (b, subst (λ (from : Lists). LeadsLists from asked b) same led, refl) };
+        (b.lists, subst (λ (from : Lists). LeadsLists from asked b.lists) same led, refl) };
 }
