@@ -1,1 +1,1 @@
-pub mod Deaths
+pub mod DyingDesk
