@@ -3,10 +3,6 @@
 #![tactic(auto)]
 
 #[cfg(test)]
-mod deaths;
-#[cfg(test)]
 mod ends;
-#[cfg(test)]
-mod mortal;
 #[cfg(test)]
 mod top;

@@ -1,8 +1,8 @@
 use Rattle.std.proofs.Common.{◌&&◌, Bool, true, ap, ◌∙◌}
 use Rattle.uw_model.specs.declared.asks.Ask.TheVariants as asks
 use Rattle.uw_model.specs.declared.asks.AskAnswer.TheVariants as ask_answers
-use Rattle.run_tests.proofs.DyingDesk.{answered_between, died_behind, not_made}
-use Rattle.run_tests.proofs.mortal.MortalDeskDesk.cache.Goals as goal
+use Rattle.death_tests.proofs.DyingDesk.{answered_between, died_behind, not_made}
+use Rattle.death_tests.proofs.mortal.MortalDeskDesk.cache.Goals as goal
 
 pub returns-then-may_write-clause-asked : goal.returns-then-may_write-clause-asked
 returns-then-may_write-clause-asked g c =
