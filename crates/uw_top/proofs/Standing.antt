@@ -89,13 +89,13 @@ ends_on led told held on site e (Some faults.Memory) (inr below) = elim below.1 
 ends_on led told held on site e (Some faults.TooMany) end = let o = nothing_on led told held on e.allowed e.still end.2 in (o.0, o.1, (end.0, end.1, o.2))
 ends_on led told held on site e (Some _) end = absurd end
 
--- a whole run of `pipe`
+-- a whole run of `pipe`, by the same turns
 pub run_on : {D : Type 0} → (leads : D → D → List Asking → ℕ → Type 0) (stands : D → Lists → Type 0) → StandsOn leads stands → (a b : D × Keeping) (lists : Lists)
-    (allowed left : Option (List ℕ)) (site : Site) (src : Inflow) (snk : Outflow) (gave : List ℕ → Type 0) (briefs : List Brief) (fault : Option RunFault) → stands a.0 lists
-    → (run : PipeRun (both_lead leads) a b allowed site src snk gave briefs fault) × (run.still ≡ left)
+    (allowed : Option (List ℕ)) (site : Site) (src : Inflow) (snk : Outflow) (gave : List ℕ → Type 0) (briefs : List Brief) (fault : Option RunFault) → stands a.0 lists
+    → (run : PipeRun (both_lead leads) a b allowed site src snk gave briefs fault)
     → (after : Lists) × stands b.0 after
-    × ((run : PipeRun (both_lead list_leads) (lists, a.1) (after, b.1) allowed site src snk gave briefs fault) × (run.still ≡ left))
-run_on leads stands on a b lists allowed left site src snk gave briefs fault held (run, same) =
+    × ((told : PipeRun (both_lead list_leads) (lists, a.1) (after, b.1) allowed site src snk gave briefs fault) × (told.turns ≡ run.turns) × (told.still ≡ run.still))
+run_on leads stands on a b lists allowed site src snk gave briefs fault held run =
     let passed = turns_on leads stands on site a run.behind lists allowed run.left run.turns held run.passed in
     let behind : Lists × Keeping = (passed.0, run.behind.1) in
     let end = ends_on (both_lead leads run.behind b) (λ (after : Lists). both_lead list_leads behind (after, b.1)) (λ (after : Lists). stands b.0 after)
@@ -121,6 +121,7 @@ run_on leads stands on a b lists allowed left site src snk gave briefs fault hel
           writes = run.writes;
           ending = end.2;
         },
-        same,
+        refl,
+        refl,
       ),
     )

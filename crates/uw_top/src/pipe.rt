@@ -211,21 +211,25 @@ pub fn serve_packets<'c, S: Source, K: Sink, C: Clock, D: OwnDesk, P: Keeper>(
     requires fits { FitTable conf.now.routes searches.old }
     requires alive { life.old.alive ≡ true }
     requires first { briefs.old.items ≡ [] }
-    ensures asks { (site : Site) → IsSiteOf conf.now site → (run : PipeRun (both_lead D.leads)
+
+    // A run by the desk's own relation; and the same turns led all lists on that it stood for, to those for which it stands now.
+    ensures runs { (site : Site) → IsSiteOf conf.now site → (run : PipeRun (both_lead D.leads)
         (desk.old, keeping P.rows P.append_faults P.other_faults keep.old)
         (desk.new, keeping P.rows P.append_faults P.other_faults keep.new)
         (Some life.old.allowances) site
         (inflow S.left S.ended S.faults src.old src.new)
         (outflow K.taken K.faults snk.old snk.new)
-        (C.gave clock.old clock.new) briefs.new.items result) × (run.still ≡ Some life.new.allowances) }
-    ensures stands { (site : Site) (lists : Lists) → IsSiteOf conf.now site → D.stands desk.old lists
-        → (after : Lists) × D.stands desk.new after × ((run : PipeRun (both_lead list_leads)
+        (C.gave clock.old clock.new) briefs.new.items result) × (run.still ≡ Some life.new.allowances)
+        × ((lists : Lists) → D.stands desk.old lists → (after : Lists) × D.stands desk.new after × ((told : PipeRun
+        (both_lead list_leads)
         (lists, keeping P.rows P.append_faults P.other_faults keep.old)
         (after, keeping P.rows P.append_faults P.other_faults keep.new)
         (Some life.old.allowances) site
         (inflow S.left S.ended S.faults src.old src.new)
         (outflow K.taken K.faults snk.old snk.new)
-        (C.gave clock.old clock.new) briefs.new.items result) × (run.still ≡ Some life.new.allowances)) }
+        (C.gave clock.old clock.new) briefs.new.items result) × (told.turns ≡ run.turns) × (told.still ≡ run.still))) }
+    ensures fits { FitTable conf.now.routes searches.new }
+    ensures parts { D.parts desk.new ≡ D.parts desk.old }
     ensures alive { life.new.alive ≡ true }
 {
     for served in 0..MOST_PACKETS {

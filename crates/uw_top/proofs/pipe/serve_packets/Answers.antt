@@ -7,25 +7,25 @@ use Rattle.uw_top.proofs.Machine.{none_yet, one_more, run_ends, run_is_full}
 use Rattle.uw_top.proofs.Standing.{run_on}
 use Rattle.uw_top.proofs.pipe.serve_packets.Goals as goal
 
-pub returns-in-Ok-false-clause-asks : goal.returns-in-Ok-false-clause-asks
-returns-in-Ok-false-clause-asks g c = λ site is.
+pub returns-in-Ok-false-clause-runs : goal.returns-in-Ok-false-clause-runs
+returns-in-Ok-false-clause-runs g c = λ site is.
     let i = c.loop-served.invariant in
-    run_ends g.C.Clock.gave g.met.C.Clock.gave_more (both_lead g.D.Desk.leads) _ _ _ _ _ _ site _ _ _ _ _ _ _ _ _ _ _ _ _ _ _ _ _ _ c.loop-served.served _ i.src i.snk c.in-Ok-false.ensures.reads c.in-Ok-false.ensures.writes c.loop-served-test.true (i.so_far site is)
-    (rw c.in-Ok-false.field-0-test at (c.in-Ok-false.ensures.turn site is))
+    let ran = run_ends g.C.Clock.gave g.met.C.Clock.gave_more (both_lead g.D.Desk.leads) _ _ _ _ _ _ site _ _ _ _ _ _ _ _ _ _ _ _ _ _ _ _ _ _ c.loop-served.served _ i.src i.snk c.in-Ok-false.ensures.reads c.in-Ok-false.ensures.writes c.loop-served-test.true (i.so_far site is)
+    (rw c.in-Ok-false.field-0-test at (c.in-Ok-false.ensures.turn site is)) in
+    (ran.0, ran.1, λ lists held. run_on g.D.Desk.leads g.D.OwnDesk.stands g.met.D.OwnDesk.stands_on _ _ lists _ site _ _ _ _ _ held ran.0)
 
-pub returns-in-Ok-false-clause-stands : goal.returns-in-Ok-false-clause-stands
-returns-in-Ok-false-clause-stands g c = λ site lists is held.
-    run_on g.D.Desk.leads g.D.OwnDesk.stands g.met.D.OwnDesk.stands_on _ _ lists _ _ site _ _ _ _ _ held (returns-in-Ok-false-clause-asks g c site is)
-
-pub returns-in-Err-clause-asks : goal.returns-in-Err-clause-asks
-returns-in-Err-clause-asks g c = λ site is.
+pub returns-in-Err-clause-runs : goal.returns-in-Err-clause-runs
+returns-in-Err-clause-runs g c = λ site is.
     let i = c.loop-served.invariant in
-    run_ends g.C.Clock.gave g.met.C.Clock.gave_more (both_lead g.D.Desk.leads) _ _ _ _ _ _ site _ _ _ _ _ _ _ _ _ _ _ _ _ _ _ _ _ _ c.loop-served.served _ i.src i.snk c.in-Err.ensures.reads c.in-Err.ensures.writes c.loop-served-test.true (i.so_far site is)
-    (c.in-Err.ensures.turn site is)
+    let ran = run_ends g.C.Clock.gave g.met.C.Clock.gave_more (both_lead g.D.Desk.leads) _ _ _ _ _ _ site _ _ _ _ _ _ _ _ _ _ _ _ _ _ _ _ _ _ c.loop-served.served _ i.src i.snk c.in-Err.ensures.reads c.in-Err.ensures.writes c.loop-served-test.true (i.so_far site is)
+    (c.in-Err.ensures.turn site is) in
+    (ran.0, ran.1, λ lists held. run_on g.D.Desk.leads g.D.OwnDesk.stands g.met.D.OwnDesk.stands_on _ _ lists _ site _ _ _ _ _ held ran.0)
 
-pub returns-in-Err-clause-stands : goal.returns-in-Err-clause-stands
-returns-in-Err-clause-stands g c = λ site lists is held.
-    run_on g.D.Desk.leads g.D.OwnDesk.stands g.met.D.OwnDesk.stands_on _ _ lists _ _ site _ _ _ _ _ held (returns-in-Err-clause-asks g c site is)
+pub returns-in-Ok-false-clause-parts : goal.returns-in-Ok-false-clause-parts
+returns-in-Ok-false-clause-parts g c = c.in-Ok-false.ensures.parts ∙ c.loop-served.invariant.parts
+
+pub returns-in-Err-clause-parts : goal.returns-in-Err-clause-parts
+returns-in-Err-clause-parts g c = c.in-Err.ensures.parts ∙ c.loop-served.invariant.parts
 
 pub loop-served-preserved : goal.loop-served-preserved
 loop-served-preserved g c =
@@ -40,13 +40,10 @@ loop-served-preserved g c =
       snk = e.writes.kept refl ∙ i.snk;
     }
 
-pub returns-clause-asks : goal.returns-clause-asks
-returns-clause-asks g c = λ site is.
+pub returns-clause-runs : goal.returns-clause-runs
+returns-clause-runs g c = λ site is.
     let i = c.loop-served.invariant in
-    run_is_full g.C.Clock.gave (both_lead g.D.Desk.leads) _ _ _ _ site _ _ _ _ _ _ c.args.clock.now c.loop-served.clock _ _ _ _ _ _ _ c.loop-served.served i.src i.snk c.look_further.ensures.reads (omega arith)
+    let ran = run_is_full g.C.Clock.gave (both_lead g.D.Desk.leads) _ _ _ _ site _ _ _ _ _ _ c.args.clock.now c.loop-served.clock _ _ _ _ _ _ _ c.loop-served.served i.src i.snk c.look_further.ensures.reads (omega arith)
     (g.met.D.Desk.leads_none c.loop-served.desk, kept_none (keeping g.P.Keeper.rows g.P.Keeper.append_faults g.P.Keeper.other_faults c.loop-served.keep))
-    (Spends-none (Some c.loop-served.life.allowances)) (i.so_far site is) c.look_further.ensures.further
-
-pub returns-clause-stands : goal.returns-clause-stands
-returns-clause-stands g c = λ site lists is held.
-    run_on g.D.Desk.leads g.D.OwnDesk.stands g.met.D.OwnDesk.stands_on _ _ lists _ _ site _ _ _ _ _ held (returns-clause-asks g c site is)
+    (Spends-none (Some c.loop-served.life.allowances)) (i.so_far site is) c.look_further.ensures.further in
+    (ran.0, ran.1, λ lists held. run_on g.D.Desk.leads g.D.OwnDesk.stands g.met.D.OwnDesk.stands_on _ _ lists _ site _ _ _ _ _ held ran.0)

@@ -42,7 +42,7 @@ returns-clause-pipes g c = λ site is.
     let kept : Keeping = keeping g.P.Keeper.rows g.P.Keeper.append_faults g.P.Keeper.other_faults c.args.keep.now in
     let left : Keeping = keeping g.P.Keeper.rows g.P.Keeper.append_faults g.P.Keeper.other_faults c.serve_packets-fault.new.keep in
     let empty : c.in-Ok.desk ≡ first_lists site.options = c.in-Ok.ensures ∙ ap (λ (options : Options). first_lists options) is.options in
-    let ran = c.serve_packets-fault.ensures.stands site (first_lists site.options) is empty in
+    let ran = (c.serve_packets-fault.ensures.runs site is).2 (first_lists site.options) empty in
     let Allowed : Option (List ℕ) → Type 0 = λ allowed.
     PipeRun (both_lead list_leads) (first_lists site.options, kept) (ran.0, left) allowed site src snk gave c.serve_packets-fault.new.briefs.items c.serve_packets-fault.result in
     let undying : Allowed unbounded = subst Allowed (ap (λ (life : LifeLeft). Some life.allowances) c.new-life.ensures ∙ ap (λ (numbers : List ℕ). Some (map (λ n. n - 1) numbers)) c.new-3.ensures.items) ran.2.0 in
