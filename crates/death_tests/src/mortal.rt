@@ -88,6 +88,8 @@ impl Desk for MortalDesk {
 impl OwnDesk for MortalDesk {
     ghost stands = { λ desk lists. desk.lists ≡ lists };
 
+    ghost stands_parts = { λ a lists same. subst (λ (x : Lists). parts_of x ≡ parts_of a.lists) same refl };
+
     ghost stands_on = { λ a b asked writes lists led same.
         (b.lists, subst (λ (from : Lists). LeadsLists from asked b.lists) same led, refl) };
 }

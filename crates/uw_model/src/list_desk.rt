@@ -119,6 +119,8 @@ impl Desk for ListDesk {
 impl OwnDesk for ListDesk {
     ghost stands = { λ desk lists. desk ≡ lists };
 
+    ghost stands_parts = { λ a lists same. subst (λ (x : Lists). parts_of x ≡ parts_of a) same refl };
+
     ghost stands_on = { λ a b asked writes lists led same.
         (b, subst (λ (from : Lists). LeadsLists from asked b) same led, refl) };
 }

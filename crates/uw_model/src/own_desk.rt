@@ -1,7 +1,7 @@
 // A desk that is known to stand for plain lists.
-ghost use Rattle.std.specs.Prelude.{ℕ, List};
+ghost use Rattle.std.specs.Prelude.{◌≡◌, ℕ, List};
 ghost use Rattle.uw_model.specs.Asks.{Asking};
-ghost use Rattle.uw_model.specs.Lists.{LeadsLists, Lists};
+ghost use Rattle.uw_model.specs.Lists.{LeadsLists, Lists, parts_of};
 
 use crate::Desk;
 
@@ -10,6 +10,9 @@ use crate::Desk;
 pub trait OwnDesk: Desk {
     /// It stands for these lists.
     ghost stands: { Self → Lists → Type 0 };
+
+    /// The lists are of just its caches and areas.
+    ghost stands_parts: { (a : Self) (lists : Lists) → stands a lists → parts_of lists ≡ Self.parts a };
 
     /// Asks that lead the desk on lead the lists on.
     ghost stands_on: { (a b : Self) (asked : List Asking) (writes : ℕ) (lists : Lists)

@@ -1,5 +1,6 @@
 // A binder over one listener in memory.
-ghost use Rattle.std.specs.Prelude.{◌≡◌, false, is_err, IfOk, IfSome, MatchResult, Some, None, if◌then◌else◌};
+ghost use Rattle.std.specs.Prelude.{◌≡◌, false, is_err, IfOk, MatchResult, Some, None, if◌then◌else◌};
+ghost use Rattle.std.specs.Option.{option_map};
 ghost use Rattle.uw_outside.specs.Counts.{next_count};
 ghost use Rattle.uw_outside.specs.Faults.{HasCause};
 
@@ -52,7 +53,7 @@ impl<R: Wait + Copy + Send + Drop + 'static> Binder for LinkBinder<R> {
         ensures cause { HasCause self.old.faults self.new.faults (is_err result) }
         ensures closings { self.new.closings ≡ self.old.closings }
         ensures list { MatchResult result
-            (λ bound. IfSome self.old.list (λ list. bound ≡ record list { closed = false }))
+            (λ bound. Some bound ≡ option_map (λ list. record list { closed = false }) self.old.list)
             (λ _. self.old.list ≡ None) }
         ensures first { self.new.list ≡ None }
         ensures faults { self.new.faults
