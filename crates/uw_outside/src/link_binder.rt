@@ -3,6 +3,7 @@ ghost use Rattle.std.specs.Prelude.{◌≡◌, false, is_err, IfOk, MatchResult,
 ghost use Rattle.std.specs.Option.{option_map};
 ghost use Rattle.uw_outside.specs.Counts.{next_count};
 ghost use Rattle.uw_outside.specs.Faults.{HasCause};
+ghost use Rattle.uw_outside.specs.Links.{Links};
 
 use crate::binder::{Binder, NotBound};
 use crate::counts::count_fault;
@@ -53,7 +54,7 @@ impl<R: Wait + Copy + Send + Drop + 'static> Binder for LinkBinder<R> {
         ensures cause { HasCause self.old.faults self.new.faults (is_err result) }
         ensures closings { self.new.closings ≡ self.old.closings }
         ensures list { MatchResult result
-            (λ bound. Some bound ≡ option_map (λ list. record list { closed = false }) self.old.list)
+            (λ bound. Some bound ≡ option_map {T = Links} (λ list. record list { closed = false }) self.old.list)
             (λ _. self.old.list ≡ None) }
         ensures first { self.new.list ≡ None }
         ensures faults { self.new.faults
