@@ -1,0 +1,5 @@
+pub mod Regions
+pub mod Parts
+pub mod Agreement
+pub mod Bounds
+pub mod CacheKind

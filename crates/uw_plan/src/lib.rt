@@ -1,0 +1,9 @@
+//! The region of a cache: where its parts stand, and which words of it agree with a list of entries. A call of a cache is
+//! planned as word writes that lead from words which agree with one list to words which agree with the next.
+#![tactic(auto)]
+
+pub mod laws;
+mod region;
+
+pub use region::{frame_of, shape_of};
+pub use uw_model::words_of;
