@@ -1,5 +1,5 @@
 -- Words agree with one list at most, and still agree where the words below the redo record stay.
-use Rattle.std.proofs.Common.{◌≡◌, ◌≢◌, inl, inr, ℕ, ◌+◌, ◌*◌, ◌/◌, ◌%◌, ◌<◌, ◌≤◌, ◌==◌, List, [], ◌∷◌, length, refl, sym, ap, ◌∙◌, subst, arith}
+use Rattle.std.proofs.Common.{◌≡◌, ◌≢◌, ◌⊎◌, inl, inr, ℕ, ◌+◌, ◌*◌, ◌/◌, ◌%◌, ◌<◌, ◌≤◌, ◌==◌, List, [], ◌∷◌, length, refl, sym, ap, ◌∙◌, subst, arith}
 use Rattle.std.specs.Int.{bit_at}
 use Rattle.uw_model.specs.declared.conf.CacheConf.{CacheConf}
 use Rattle.uw_model.specs.declared.entries.Entry.{Entry}
@@ -157,25 +157,25 @@ module _ (conf : CacheConf) (shape : Shape) (of : IsShapeOf conf shape) (before 
       recency_place : (items : List ℕ) → ((item : ℕ) → IsOneOf items item → item < shape.n_items) → (at : ℕ) → IsRecencyPlace shape items at → now at ≡ before at
       recency_place items short at (inl here) = head_place at 6 here (omega arith)
       recency_place items short at (inr (inl here)) = head_place at 7 here (omega arith)
-      recency_place items short at (inr (inr (item, one, inl here))) =
+      recency_place items short at (inr (inr (item, (one, inl here)))) =
           subst (λ (p : ℕ). now p ≡ before p) (sym here) (of_item item 1 (short item one) (omega (arith, stride_eight)))
-      recency_place items short at (inr (inr (item, one, inr here))) =
+      recency_place items short at (inr (inr (item, (one, inr here)))) =
           subst (λ (p : ℕ). now p ≡ before p) (sym here) (of_item item 2 (short item one) (omega (arith, stride_eight)))
 
       free_place : (items : List ℕ) → ((item : ℕ) → IsOneOf items item → item < shape.n_items) → (at : ℕ) → IsFreePlace shape items at → now at ≡ before at
       free_place items short at (inl here) = head_place at 8 here (omega arith)
-      free_place items short at (inr (item, one, here)) =
+      free_place items short at (inr (item, (one, here))) =
           subst (λ (p : ℕ). now p ≡ before p) (sym here) (of_item item 2 (short item one) (omega (arith, stride_eight)))
 
       chains_place : (chains : ℕ → List ℕ) → ((chain item : ℕ) → chain < shape.n_chains → IsOneOf (chains chain) item → item < shape.n_items) → (at : ℕ)
           → IsChainsPlace shape chains at ⊎ IsChainsKeyPlace shape chains at
           → now at ≡ before at
-      chains_place chains short at (inl (inl (chain, few, here))) =
+      chains_place chains short at (inl (inl (chain, (few, here)))) =
           high at (omega (arith, here, head_short)) (omega (arith, here, chains_behind chain few, items_behind))
-      chains_place chains short at (inl (inr (item, (chain, few, one), here))) =
+      chains_place chains short at (inl (inr (item, ((chain, (few, one)), here)))) =
           subst (λ (p : ℕ). now p ≡ before p) (let e : link_of shape item + 0 ≡ at = omega (arith, here) in e)
           (of_item item 0 (short chain item few one) (omega (arith, stride_eight)))
-      chains_place chains short at (inr (item, field, (chain, few, one), some, small, here)) =
+      chains_place chains short at (inr (item, field, ((chain, (few, one)), some, small, here))) =
           subst (λ (p : ℕ). now p ≡ before p) (sym here) (of_item item field (short chain item few one) small)
 
   pub agreement_stays : (items : List ℕ) (list : List Entry) → AgreesAs before shape conf items list → AgreesAs now shape conf items list

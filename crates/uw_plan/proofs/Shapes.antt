@@ -1,5 +1,5 @@
 -- What is known of the shape of a configuration's region.
-use Rattle.std.proofs.Common.{◌≡◌, ℕ, ◌+◌, ◌*◌, ◌/◌, ◌%◌, ◌<◌, ◌≤◌, max, List, length, refl, sym, ap, ◌∙◌, arith}
+use Rattle.std.proofs.Common.{◌≡◌, ℕ, ◌+◌, ◌-◌, ◌*◌, ◌/◌, ◌%◌, ◌<◌, ◌≤◌, max, List, length, refl, sym, ap, ◌∙◌, arith}
 use Rattle.std.proofs.lemmas.Nat.{mul-le}
 use Rattle.std.proofs.Math.Nat.{mul_comm, mul_assoc}
 use Rattle.uw_model.specs.declared.conf.CacheConf.{CacheConf}
@@ -76,4 +76,7 @@ entry_lies conf shape of e is =
     eight a b = sym (mul_assoc 8 a b) ∙ ap (λ (c : ℕ). c * b) (mul_comm 8 a) ∙ mul_assoc a 8 b
 
     fits : (len size : ℕ) → 0 < size → len ≤ max 1 ((len + (size - 1)) / size) * size
-    fits len size some = omega arith
+    fits len size some =
+        let q = (len + (size - 1)) / size in
+        let low : q * size ≤ max 1 q * size = mul-le q size (max 1 q) size (omega arith) (omega arith) in
+        omega (arith, low, mul_comm q size)
