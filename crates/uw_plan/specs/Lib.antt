@@ -3,3 +3,4 @@ pub mod Parts
 pub mod Agreement
 pub mod Bounds
 pub mod CacheKind
+pub mod BlankSteps

@@ -2,8 +2,10 @@
 //! planned as word writes that lead from words which agree with one list to words which agree with the next.
 #![tactic(auto)]
 
+mod blank;
 pub mod laws;
 mod region;
 
+pub use blank::blank_region;
 pub use region::{frame_of, shape_of};
 pub use uw_model::words_of;
