@@ -1,3 +1,4 @@
 pub mod Shapes
 pub mod Agreeing
 pub mod Blanks
+pub mod Examples

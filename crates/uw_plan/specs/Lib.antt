@@ -4,3 +4,4 @@ pub mod Agreement
 pub mod Bounds
 pub mod CacheKind
 pub mod BlankSteps
+pub mod Example

@@ -6,6 +6,7 @@ ghost use Rattle.uw_model.specs.Entries.{IsCacheConf};
 ghost use Rattle.uw_intent.specs.Standing.{IsLocal};
 ghost use Rattle.uw_plan.specs.Agreement.{Agrees};
 ghost use Rattle.uw_plan.specs.CacheKind.{cache_kind};
+ghost use Rattle.uw_plan.specs.Example.{example_conf, example_list, example_words};
 
 /// The words of a region agree with one list at most.
 pub fn a_region_agrees_with_one_list()
@@ -16,4 +17,9 @@ pub fn a_region_agrees_with_one_list()
 /// Whether the words of a region agree with a list depends on its length, its gate and the words beyond the redo record.
 pub fn a_region_depends_on_words_beyond_its_record()
     ensures { (conf : CacheConf) → IsCacheConf conf → IsLocal (cache_kind conf) }
+{}
+
+/// The region that is written out by hand agrees with its two entries.
+pub fn the_example_agrees_with_its_entries()
+    ensures { Agrees example_conf example_words example_list }
 {}
