@@ -8,20 +8,18 @@ use Rattle.uw_words.specs.declared.shape.Shape.{Shape}
 use Rattle.uw_words.specs.Shapes.{IsShape}
 use Rattle.uw_words.specs.Plans.{region}
 use Rattle.uw_words.specs.Numbers.{IsOneOf}
-use Rattle.uw_words.specs.Walks.{item_word, link_of}
+use Rattle.uw_words.specs.Walks.{link_of}
 use Rattle.uw_words.proofs.Links.{item_within, link_above, walk_short}
-use Rattle.uw_intent.specs.RedoRecord.{IsBeyond}
 use Rattle.uw_intent.specs.Standing.{IsLocal}
 use Rattle.uw_bitmap.specs.Bits.{is_marked, word_of}
 use Rattle.uw_recency.specs.Recency.{IsRecencyPlace}
 use Rattle.uw_recency.proofs.Lists.{depends, one_list}
 use Rattle.uw_chains.specs.Chains.{IsChainsKeyPlace, IsChainsPlace, item_chain}
 use Rattle.uw_chains.proofs.Places.{depend}
-use Rattle.uw_items.specs.Items.{IsRecordPlace, field_places, key_places, value_places}
 use Rattle.uw_items.specs.FreeList.{IsFreePlace}
 use Rattle.uw_items.proofs.Held.{key_back, key_own, key_same, value_back, value_same, value_within, words_within}
 use Rattle.uw_items.proofs.FreeItems.{free_depends}
-use Rattle.uw_plan.specs.Regions.{frame_of, shape_of}
+use Rattle.uw_plan.specs.Regions.{shape_of}
 use Rattle.uw_plan.specs.Parts.{HoldEntries, HoldsEntry, HoldsParts, Parts}
 use Rattle.uw_plan.specs.Agreement.{Agrees, AgreesAs}
 use Rattle.uw_plan.specs.CacheKind.{cache_kind}

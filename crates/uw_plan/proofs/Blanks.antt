@@ -1,26 +1,24 @@
 -- A region without an entry agrees with the empty list.
-use Rattle.std.proofs.Common.{◌≡◌, ◌≢◌, inl, inr, ℕ, zero, suc, ◌+◌, ◌-◌, ◌*◌, ◌/◌, ◌%◌, ◌<◌, ◌≤◌, ◌==◌, Bool, true, false, List, [], ◌∷◌, length, set, get_or, refl, sym, ap, ◌∙◌, subst, arith}
+use Rattle.std.proofs.Common.{◌≡◌, inl, inr, ℕ, zero, suc, ◌+◌, ◌-◌, ◌%◌, ◌<◌, ◌≤◌, ◌==◌, false, List, [], length, set, get_or, refl, sym, ap, ◌∙◌, subst, arith}
 use Rattle.std.specs.Int.{bit_at}
 use Rattle.std.proofs.lemmas.Bool.{cases_eq}
 use Rattle.std.proofs.lemmas.Bool.Decides.{nat_tests}
-use Rattle.std.proofs.lemmas.List.{get_or-replicate, get_or-set_other, get_or-set_same, length-set}
+use Rattle.std.proofs.lemmas.List.{get_or-set_other, get_or-set_same, length-set}
 use Rattle.std.proofs.lemmas.Nat.Bits.{bit_at-zero}
 use Rattle.uw_model.specs.declared.conf.CacheConf.{CacheConf}
 use Rattle.uw_model.specs.Entries.{IsCacheConf}
-use Rattle.uw_model.specs.Layout.{words_of}
 use Rattle.uw_words.specs.declared.shape.Shape.{Shape}
-use Rattle.uw_words.specs.Shapes.{IsShape, shape_words}
+use Rattle.uw_words.specs.Shapes.{IsShape}
 use Rattle.uw_words.specs.Plans.{region}
-use Rattle.uw_words.specs.Numbers.{AreDistinct, IsNoneOf, IsOneOf, places_from}
-use Rattle.uw_words.specs.Walks.{IsWalk, item_word, link_of}
+use Rattle.uw_words.specs.Numbers.{AreDistinct, places_from}
+use Rattle.uw_words.specs.Walks.{IsWalk, link_of}
 use Rattle.uw_words.proofs.Growth.{none_before, row_has}
 use Rattle.uw_words.proofs.Links.{item_within, link_above, same_item}
-use Rattle.uw_bitmap.specs.Bits.{is_marked, word_of}
+use Rattle.uw_bitmap.specs.Bits.{word_of}
 use Rattle.uw_plan.specs.Regions.{shape_of}
-use Rattle.uw_plan.specs.Parts.{Parts}
 use Rattle.uw_plan.specs.Agreement.{Agrees}
-use Rattle.uw_plan.specs.BlankSteps.{HasFreeItems, HasHead, blank_head, link_to}
-use Rattle.uw_plan.proofs.Shapes.{IsShapeOf, shape_of_conf}
+use Rattle.uw_plan.specs.BlankSteps.{HasFreeItems, link_to}
+use Rattle.uw_plan.proofs.Shapes.{shape_of_conf}
 
 -- one more free item
 pub item_more : (shape : Shape) → IsShape shape → (words now : List ℕ) (item next : ℕ) → HasFreeItems shape words item → item < shape.n_items → next ≡ link_to shape (item + 1)

@@ -1,6 +1,7 @@
 -- The region that is written out by hand agrees with its list.
-use Rattle.std.proofs.Common.{◌≡◌, ◌≢◌, ◌⊎◌, inl, inr, ℕ, zero, suc, ◌+◌, ◌-◌, ◌*◌, ◌/◌, ◌%◌, ◌<◌, ◌≤◌, ◌==◌, Bool, true, false, List, [], ◌∷◌, length, get_or, refl, sym, ap, ◌∙◌, subst, arith}
+use Rattle.std.proofs.Common.{◌≡◌, inl, inr, ℕ, zero, suc, ◌+◌, ◌-◌, ◌*◌, ◌/◌, ◌%◌, ◌<◌, ◌==◌, false, List, [], ◌∷◌, get_or, refl, sym, ap, ◌∙◌, subst, arith}
 use Rattle.std.specs.Int.{bit_at}
+use Rattle.std.specs.List.{All}
 use Rattle.std.proofs.lemmas.Bool.Decides.{nat_tests}
 use Rattle.std.proofs.lemmas.Nat.Bits.{bit_at_above}
 use Rattle.std.proofs.lemmas.List.Elements.{All-cons, All-nil}
@@ -16,7 +17,7 @@ use Rattle.uw_recency.specs.Recency.{IsRecency}
 use Rattle.uw_chains.specs.Chains.{FallsOn, IsChains, item_chain}
 use Rattle.uw_items.specs.FreeList.{IsFreeList}
 use Rattle.uw_plan.specs.Regions.{shape_of}
-use Rattle.uw_plan.specs.Parts.{AreBytes, HoldsEntry, IsHead, Parts}
+use Rattle.uw_plan.specs.Parts.{HoldsEntry, IsHead, Parts}
 use Rattle.uw_plan.specs.Agreement.{Agrees, FitsList, is_covered}
 use Rattle.uw_plan.specs.Example.{example_conf, example_list, example_words}
 
@@ -43,10 +44,10 @@ chains_of (suc (suc (suc (suc chain)))) = []
 abbrev parts : Parts
 parts = record { items = 1 ∷ 0 ∷ []; free = 2 ∷ 3 ∷ []; chains = chains_of; marked = is_covered example_conf example_list; count = 2 }
 
-one_byte : (byte : ℕ) → byte < 256 → AreBytes (byte ∷ [])
+one_byte : (byte : ℕ) → byte < 256 → All (λ b. b < 256) (byte ∷ [])
 one_byte byte small = let P : ℕ → Type 0 = λ b. b < 256 in All-cons P byte [] small (All-nil P)
 
-three_bytes : (x y z : ℕ) → x < 256 → y < 256 → z < 256 → AreBytes (x ∷ y ∷ z ∷ [])
+three_bytes : (x y z : ℕ) → x < 256 → y < 256 → z < 256 → All (λ b. b < 256) (x ∷ y ∷ z ∷ [])
 three_bytes x y z small little few = let P : ℕ → Type 0 = λ b. b < 256 in All-cons P x (y ∷ z ∷ []) small (All-cons P y (z ∷ []) little (one_byte z few))
 
 first_held : HoldsEntry reader shape 0 first_entry

@@ -1,5 +1,5 @@
 -- What the parts of a region's words hold, each part by itself (own rule).
-use Rattle.std.specs.Prelude.{◌≡◌, ℕ, ◌+◌, ◌*◌, ◌<◌, ◌≤◌, Bool, List, [], ◌∷◌, length}
+use Rattle.std.specs.Prelude.{◌≡◌, ℕ, ◌*◌, ◌<◌, ◌≤◌, Bool, List, [], ◌∷◌, length}
 use Rattle.std.specs.List.{All}
 use Rattle.uw_model.specs.declared.entries.Entry.{Entry}
 use Rattle.uw_words.specs.declared.shape.Shape.{Shape}
@@ -44,17 +44,13 @@ pub record HoldsParts (reader : ℕ → ℕ) (shape : Shape) (parts : Parts) : T
 abbrev pub fields_of_entry : Entry → Fields
 fields_of_entry e = record { dies = e.dies; first = e.first; length = length e.value }
 
--- each of them is a byte
-abbrev pub AreBytes : List ℕ → Type 0
-AreBytes text = All (λ byte. byte < 256) text
-
--- the item holds the entry: its key, its fields, and its value in its blocks
+-- the item holds the entry: its key, its fields, and its value in its blocks, both of them bytes
 pub record HoldsEntry (reader : ℕ → ℕ) (shape : Shape) (item : ℕ) (e : Entry) : Type 0 where
   pub key : HoldsKey reader shape item e.key
   pub fields : HoldsFields reader shape item (fields_of_entry e)
   pub value : HoldsValue reader shape e.first e.value
-  pub key_bytes : AreBytes e.key
-  pub value_bytes : AreBytes e.value
+  pub key_bytes : All (λ byte. byte < 256) e.key
+  pub value_bytes : All (λ byte. byte < 256) e.value
 
 -- each item holds the entry of the same place, and there are as many entries as items
 abbrev pub HoldEntries : (ℕ → ℕ) → Shape → List ℕ → List Entry → Type 0

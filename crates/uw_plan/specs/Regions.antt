@@ -1,5 +1,4 @@
 -- Where the parts of a cache's region stand (own rule).
-use Rattle.std.specs.Prelude.{ℕ}
 use Rattle.uw_model.specs.declared.conf.CacheConf.{CacheConf}
 use Rattle.uw_model.specs.Layout.{block_words, item_words, key_words, layout_of, record_words}
 use Rattle.uw_words.specs.declared.shape.Shape.{Shape}
