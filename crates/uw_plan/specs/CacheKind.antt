@@ -10,7 +10,7 @@ use Rattle.uw_plan.specs.Regions.{frame_of, shape_of}
 use Rattle.uw_plan.specs.Agreement.{Agrees}
 use Rattle.uw_plan.specs.Bounds.{most_writes}
 
--- its state is the list of the entries, and a call of it is a call of the cache
+-- the kind of the region of a cache: its state is the list of the entries, and a call of it is a call of the cache
 abbrev pub cache_kind : CacheConf → Kind (List Entry) Call Answer
 cache_kind conf = record {
   frame = frame_of (shape_of conf);

@@ -1,5 +1,5 @@
-//! The region of a cache: where its parts stand, and which words of it agree with a list of entries. A call of a cache is
-//! planned as word writes that lead from words which agree with one list to words which agree with the next.
+//! The region of a cache: where its parts stand, which words of it agree with a list of entries, and a region without an
+//! entry.
 #![tactic(auto)]
 
 mod blank;

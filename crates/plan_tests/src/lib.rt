@@ -1,0 +1,5 @@
+//! Tests of the region of a cache.
+#![tactic(auto)]
+
+#[cfg(test)]
+mod regions;
