@@ -47,20 +47,22 @@ fn links<R: Wait + Drop>(
     Ok(LinkList::new(rt, inputs, Arc::try_clone(board)?))
 }
 
-// Accepts one connection, waits for it and sends back its first four bytes: what the write answers, or `None` where no
-// connection comes any more.
-pub(crate) fn send_back<L: Listener>(
+// Waits for a connection, and sends back its first four bytes.
+fn send_back<I: Source + Drop, O: Sink + Drop>(source: I, sink: O) -> Put {
+    let (mut source, mut sink) = (source, sink);
+    let mut buf = [0; 4];
+    source.wait();
+    let _ = fill(&mut source, &mut buf);
+    sink.write(&buf)
+}
+
+// Accepts one connection and sends back: what the write answers, or `None` where no connection comes any more.
+pub(crate) fn answer_one<L: Listener>(
     alloc: Global,
     listener: &mut L,
 ) -> Result<Option<Put>, AllocError> {
     match listener.accept(alloc) {
-        Accepted::Link(source, sink) => {
-            let (mut source, mut sink) = (source, sink);
-            let mut buf = [0; 4];
-            source.wait();
-            let _ = fill(&mut source, &mut buf);
-            Ok(Some(sink.write(&buf)))
-        }
+        Accepted::Link(source, sink) => Ok(Some(send_back(source, sink))),
         Accepted::Closed => Ok(None),
         Accepted::Failed => Err(AllocError),
     }
@@ -89,7 +91,7 @@ fn each_link_has_its_text(rt: HostRuntime) -> Result<(), Fail> {
         None,
         None,
     ] {
-        assert_eq!(rt; send_back(alloc, &mut list)?, want);
+        assert_eq!(rt; answer_one(alloc, &mut list)?, want);
     }
     assert!(rt; has_texts(&rt, &board, &[b"abcd", b"efgh"]));
     Ok(())
@@ -104,9 +106,9 @@ fn a_list_is_bound_once(rt: HostRuntime) -> Result<(), Fail> {
     let Ok(mut bound) = binder.bind(alloc, b"first") else {
         return Err(Fail::new("not bound"));
     };
-    assert_eq!(rt; send_back(alloc, &mut bound)?, Some(Put::Count(4)));
+    assert_eq!(rt; answer_one(alloc, &mut bound)?, Some(Put::Count(4)));
     assert!(rt; !binder.closed(&bound));
-    assert_eq!(rt; send_back(alloc, &mut bound)?, None);
+    assert_eq!(rt; answer_one(alloc, &mut bound)?, None);
     assert!(rt; binder.closed(&bound));
     assert_eq!(rt; binder.bind(alloc, b"first").err(), Some(NotBound));
     Ok(())
@@ -130,9 +132,11 @@ impl<R: Wait + Copy + Send + Drop> Job for Worker<R> {
             ended,
         } = self;
         for _ in rt.forever() {
-            match send_back(alloc, &mut *list.lock(&rt)) {
-                Ok(Some(_)) => {}
-                Ok(None) | Err(_) => break,
+            match list.lock(&rt).accept(alloc) {
+                Accepted::Link(source, sink) => {
+                    let _ = send_back(source, sink);
+                }
+                Accepted::Closed | Accepted::Failed => break,
             }
         }
         let mut ended = ended.lock(&rt);

@@ -1,5 +1,5 @@
 // The binder over sockets of the system, with clients of the test's own.
-use crate::links::send_back;
+use crate::links::answer_one;
 use std::alloc::Global;
 use std::fs;
 use std::io::{Read, Write};
@@ -16,7 +16,7 @@ fn come_back<L: Listener, S: Read + Write + Drop>(
 ) -> Result<bool, Fail> {
     let mut client = client;
     client.write_all(b"abcd")?;
-    let answer = send_back(alloc, listener)?;
+    let answer = answer_one(alloc, listener)?;
     let mut buf = [0; 4];
     client.read_exact(&mut buf)?;
     Ok(answer == Some(Put::Count(4)) && buf == *b"abcd")
