@@ -48,7 +48,7 @@ use Rattle.uw_top.specs.Pipe.{list_leads, unbounded}
 use Rattle.uw_top.specs.Replying.{Reply, replied, reply_of}
 use Rattle.uw_top.specs.Pipe.{has_failed_to_write}
 use Rattle.uw_top.specs.Load.{LoadEndsBy, LoadRun, block_for, figures_from, figures_text, head_for, load_text, next_number, no_figures, packet_for, packets_from, variables_for, with_reply}
-use Rattle.uw_top.specs.LoadSteps.{AnswersNumber, IsLoadTurn, IsLoaded, LoadLeads, LoadOver, LoadStops, LoadTurn, WritesText, answer_behind, desk_led, figures_by, load_moments, number_after}
+use Rattle.uw_top.specs.LoadSteps.{AnswersNumber, IsLoadTurn, IsLoaded, LoadLeads, LoadOver, LoadStops, LoadTurn, WritesText, answer_behind, desk_led, figures_by, load_moments, number_after, unanswered_by}
 use Rattle.uw_top.proofs.Standing.{LedOn, StandsOn, stops_on}
 use Rattle.uw_top.proofs.StandingRounds.{desk_on}
 
@@ -255,19 +255,13 @@ module _ {S : Type 0} (leads : S → S → List Asking → ℕ → Type 0) (a b 
       let same = as_generated (Ok answered) answering in
       let taken = subst (λ (h : Header). header_refusal site.options h ≡ None) made accepted in
       let led = same.1.1 in
-      (generated_is_whole site.options moment x small taken, (same.1.0, (led.0, of_both _ _ led.1, led.2)))
+      (generated_is_whole site.options moment x small taken, (same.1.0, (led.0, of_both (answered_at moment answered.asks ++ []) led.0 led.1, led.2)))
 
-  -- its block is never out of its grammar
-  pub generated_unbroken : (at : ℕ) → Answering leads a b kept site moment head block (Err (serves.BadBlock at)) → ⊥
-  generated_unbroken at answering =
-      let same = as_generated (Err (serves.BadBlock at)) answering in
-      none-some at (sym (generated_whole site.options x small) ∙ same.0)
-
-  -- it was not: there was no memory, since an immortal worker is not dead
-  pub generated_unanswered : (fault : ServeFault) → Answering leads a b kept site moment head block (Err fault) → AnswersNumber leads site a b moment x (Err faults.Memory)
+  -- it was not: there was no memory, since its block is never out of its grammar, and an immortal worker is not dead
+  pub generated_unanswered : (fault : ServeFault) → Answering leads a b kept site moment head block (Err fault) → AnswersNumber leads site a b moment x (Err (unanswered_by fault))
   generated_unanswered fault answering = go fault (as_generated (Err fault) answering)
     where
-      go : (fault : ServeFault) → Answering leads a b kept site moment (head_for x) (block_for x) (Err fault) → AnswersNumber leads site a b moment x (Err faults.Memory)
+      go : (fault : ServeFault) → Answering leads a b kept site moment (head_for x) (block_for x) (Err fault) → AnswersNumber leads site a b moment x (Err (unanswered_by fault))
       go (serves.BadBlock at) same = absurd (none-some at (sym (generated_whole site.options x small) ∙ same.0))
       go (serves.Memory done) (inl before) = inl (asks_nothing_of (both_led (leads a b) kept) (desk_led leads a b) of_both before.1)
       go (serves.Memory done) (inr behind) = inr (done, stops_of (both_led (leads a b) kept) (desk_led leads a b) of_both moment _ done behind.1)
@@ -314,18 +308,6 @@ module _ {S : Type 0} (leads : S → S → List Asking → ℕ → Type 0) (site
       → IsLoadTurn leads site (next_number (number_after x (load_moments turns))) b c t → LoadLeads leads site x a (turns ++ t ∷ []) c
   LoadLeads-push x a b c [] t same last = (c, subst (λ (from : S). IsLoadTurn leads site (next_number x) from c t) same last, refl)
   LoadLeads-push x a b c (first ∷ turns) t led last = (led.0, led.1, LoadLeads-push (next_number x) led.0 b c turns t led.2 last)
-
-  -- none yet
-  pub none_loaded : {Clk : Type 0} (gave : Clk → Clk → List ℕ → Type 0) (gave_none : (a : Clk) → gave a a []) (first : ℕ) (start : S) (clock : Clk)
-      → IsLoaded leads site first first start start no_figures (gave clock clock) 0
-  none_loaded gave gave_none first start clock = record {
-    turns = [];
-    passed = refl;
-    told = gave_none clock;
-    last = refl;
-    figures = refl;
-    count = refl;
-  }
 
   -- the answer to the number that follows the last one
   as_next : (a b : S) (moment first number next : ℕ) (turns : List LoadTurn) (result : Result Answered RunFault) → next ≡ next_number number

@@ -11,8 +11,11 @@ use Rattle.uw_chain.specs.declared.faults.ChainEnd.TheVariants as chains
 use Rattle.uw_chain.specs.Runs.{Follows, Stops}
 use Rattle.uw_ends.specs.declared.ends.RunFault.{RunFault}
 use Rattle.uw_ends.specs.declared.ends.RunFault.TheVariants as faults
+use Rattle.uw_ends.specs.declared.ends.BadPacket.TheVariants as bad
 use Rattle.uw_top.specs.declared.load.Figures.{Figures}
 use Rattle.uw_session.specs.declared.answering.Answered.{Answered}
+use Rattle.uw_session.specs.declared.faults.ServeFault.{ServeFault}
+use Rattle.uw_session.specs.declared.faults.ServeFault.TheVariants as serves
 use Rattle.uw_session.specs.Exchange.{IsAccepted, Site, course_of_site, header_refusal}
 use Rattle.uw_top.specs.Pipe.{bad_packet_of, has_failed_to_write, unbounded}
 use Rattle.uw_top.specs.Load.{figures_text, head_for, next_number, no_figures, packet_for, with_reply}
@@ -40,6 +43,11 @@ abbrev pub IsLoadTurn : {S : Type 0} → (S → S → List Asking → ℕ → Ty
 IsLoadTurn leads site x before after t =
     IsAccepted site.options (packet_for t.moment x)
     × Follows (desk_led leads before after) unbounded unbounded t.moment (course_of_site site (packet_for t.moment x)) t.asked t.reply
+
+-- the fault of a load that the fault of a packet is: its block is out of its grammar, or there was no memory
+abbrev pub unanswered_by : ServeFault → RunFault
+unanswered_by (serves.BadBlock at) = faults.BadPacket (bad.BadBlock at)
+unanswered_by _ = faults.Memory
 
 -- the packet that a number makes was answered at a moment; or its header is refused, and nothing was asked; or there was no memory, for what it asks or for something else
 abbrev pub AnswersNumber : {S : Type 0} → (S → S → List Asking → ℕ → Type 0) → Site → S → S → ℕ → ℕ → Result Answered RunFault → Type 0

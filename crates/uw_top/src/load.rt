@@ -13,7 +13,7 @@ ghost use Rattle.uw_conf.specs.Sound.{ArePartsOfSite};
 ghost use Rattle.uw_session.specs.Exchange.{HasParts, IsSiteOf, Site};
 ghost use Rattle.uw_top.specs.Load.{LoadRun, block_for, command_for, figure_line, figures_text, head_for, next_number, no_figures, packet_for, variables_for, with_reply};
 ghost use Rattle.uw_top.specs.Pipe.{has_failed_to_write};
-ghost use Rattle.uw_top.specs.LoadSteps.{AnswersNumber, AreCounted, CanCount, LoadOver, WritesText, answer_behind};
+ghost use Rattle.uw_top.specs.LoadSteps.{AnswersNumber, AreCounted, CanCount, LoadOver, WritesText, answer_behind, unanswered_by};
 
 use itoa::Buffer;
 use std::alloc::Global;
@@ -133,9 +133,18 @@ fn answer_number<'c, D: Desk>(
     let keep = &mut MemKeeper::new(Vec::new(alloc), Vec::new(alloc));
     match answer_packet(alloc, searches, conf, moment, &packet, life, desk, keep) {
         Ok(answered) => Ok(answered),
-        Err(ServeFault::BadBlock { at }) => Err(RunFault::BadPacket(BadPacket::BadBlock { at })),
-        // An immortal worker does not die, so what is left is want of memory.
-        Err(_) => Err(RunFault::Memory),
+        Err(fault) => Err(unanswered(fault)),
+    }
+}
+
+// What the fault of a packet means for a load. An immortal worker does not die, so but for a block out of its grammar it
+// is want of memory.
+fn unanswered(fault: ServeFault) -> RunFault
+    ensures { result ≡ unanswered_by fault }
+{
+    match fault {
+        ServeFault::BadBlock { at } => RunFault::BadPacket(BadPacket::BadBlock { at }),
+        _ => RunFault::Memory,
     }
 }
 

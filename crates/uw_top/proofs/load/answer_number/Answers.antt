@@ -1,11 +1,9 @@
-use Rattle.std.proofs.Common.{◌≡◌, None, arith, inl, refl, subst}
+use Rattle.std.proofs.Common.{◌≡◌, None, arith, subst}
 use Rattle.uw_conf.specs.declared.conf.Options.{Options}
 use Rattle.uw_conf.specs.Given.{options_in}
-use Rattle.uw_keeper.specs.InMemory.{KeptRows}
-use Rattle.uw_outside.proofs.Lives.{Spends-none}
 use Rattle.uw_session.specs.Exchange.{header_refusal}
-use Rattle.uw_top.specs.Pipe.{unbounded}
-use Rattle.uw_top.proofs.LoadLemmas.{accepted_header, generated_answered, generated_unanswered, generated_unbroken, kept_in_memory}
+use Rattle.uw_top.proofs.LoadLemmas.{accepted_header, generated_answered, generated_unanswered, kept_in_memory}
+use Rattle.uw_top.proofs.Settling.{undead}
 use Rattle.uw_top.proofs.load.answer_number.Goals as goal
 
 pub returns-in-Ok-clause-answer : goal.returns-in-Ok-clause-answer
@@ -17,9 +15,13 @@ returns-in-Ok-clause-answer g c = λ site is.
     generated_answered g.D.Desk.leads c.args.desk.now c.answer_packet.new.desk (kept_in_memory c.new-4.result c.answer_packet.new.keep) site c.args.moment c.args.x packet.head packet.block c.requires.number made.head made.block
     c.in-Ok.answered taken (c.in-Ok.ensures.answers site is)
 
-pub returns-in-Err-BadBlock-clause-answer : goal.returns-in-Err-BadBlock-clause-answer
-returns-in-Err-BadBlock-clause-answer g c = λ site is.
+pub returns-in-Err-clause-answer : goal.returns-in-Err-clause-answer
+returns-in-Err-clause-answer g c = λ site is.
     let packet = c.in_ok-packet.packet in
     let made = c.in_ok-packet.ensures in
-    absurd (generated_unbroken g.D.Desk.leads c.args.desk.now c.answer_packet.new.desk (kept_in_memory c.new-4.result c.answer_packet.new.keep) site c.args.moment c.args.x packet.head packet.block c.requires.number made.head made.block
-    c.in-Err-BadBlock.at (rw c.in-Err-BadBlock.field-0-is at (c.in-Err-BadBlock.ensures.answers site is)))
+    rw c.unanswered.ensures
+    (generated_unanswered g.D.Desk.leads c.args.desk.now c.answer_packet.new.desk (kept_in_memory c.new-4.result c.answer_packet.new.keep) site c.args.moment c.args.x packet.head packet.block c.requires.number made.head made.block
+    c.in-Err.fault (c.in-Err.ensures.answers site is))
+
+pub returns-in-Err-clause-settled : goal.returns-in-Err-clause-settled
+returns-in-Err-clause-settled g c = λ settled. c.in-Err.ensures.settled settled (undead _ c.in-Err.ensures.cause)
