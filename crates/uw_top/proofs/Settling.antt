@@ -14,8 +14,3 @@ not_since old now new more none rose = none (omega (arith, more, rose))
 pub not_dead : (before now : ℕ) (died : Bool) → HasCause before now died → (Rose before now → ⊥) → died ≡ false
 not_dead before now true cause none = absurd (none (cause.rose refl))
 not_dead before now false cause none = refl
-
--- a life that counts no death has none
-pub undead : (died : Bool) → HasCause 0 0 died → died ≡ false
-undead true cause = let rose : Rose 0 0 = cause.rose refl in absurd (omega (arith, rose))
-undead false cause = refl
