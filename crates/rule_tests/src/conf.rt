@@ -3,29 +3,31 @@ use std::alloc::Global;
 use std::process::Abort;
 use std::test::Fail;
 use uw_base::Memory;
-use uw_conf::{Conf, ConfError, ConfFault, ConfKind, read_conf};
+use uw_conf::{Conf, ConfError, ConfKind, read_conf};
 use uw_rules::{RegexPatterns, RuleKind};
 
-// The refused line of a text, if there is one.
-fn fault(rt: &impl Abort, alloc: Global, text: &[u8]) -> Result<Option<ConfFault>, Memory> {
+// What a text says, where a maker refuses the patterns with these numbers.
+fn read(rt: &impl Abort, alloc: Global, text: &[u8], refuse: &[u64]) -> Result<Conf, ConfError> {
     assert!(rt; text.len() < 2_000_000);
-    let mut make = RegexPatterns::new(Vec::new(alloc));
-    match read_conf(alloc, text, &mut make) {
+    let refused = match refuse.to_vec(alloc) {
+        Ok(refused) => refused,
+        Err(_) => return Err(ConfError::Memory),
+    };
+    read_conf(alloc, text, &mut RegexPatterns::new(refused))
+}
+
+// The refused line of a text with the kind of the refusal, if there is one.
+fn refusal(
+    rt: &impl Abort,
+    alloc: Global,
+    text: &[u8],
+    refuse: &[u64],
+) -> Result<Option<(u32, ConfKind)>, Memory> {
+    match read(rt, alloc, text, refuse) {
         Ok(_) => Ok(None),
-        Err(ConfError::Refused(fault)) => Ok(Some(fault)),
+        Err(ConfError::Refused(fault)) => Ok(Some((fault.line, fault.kind))),
         Err(ConfError::Memory) => Err(Memory),
     }
-}
-
-// What a text says.
-fn conf(rt: &impl Abort, alloc: Global, text: &[u8]) -> Result<Conf, ConfError> {
-    assert!(rt; text.len() < 2_000_000);
-    let mut make = RegexPatterns::new(Vec::new(alloc));
-    read_conf(alloc, text, &mut make)
-}
-
-fn at(line: u32, kind: ConfKind) -> Option<ConfFault> {
-    Some(ConfFault { line, kind })
 }
 
 // A text, and its refused line with the kind of the refusal, if there is one.
@@ -284,99 +286,90 @@ const RULES: [Row; 12] = [
     (b"route = ( break\n", Some((1, ConfKind::BadLine))),
 ];
 
-// Whether each text has its refusal, or none.
-fn expect(rt: &impl Abort, alloc: Global, rows: &[Row]) -> Result<(), Memory> {
-    for (text, want) in rows {
-        let found = fault(rt, alloc, text)?.map(|fault| (fault.line, fault.kind));
-        assert_eq!(rt; found, *want, "{text:?}");
-    }
-    Ok(())
-}
+const REFUSED: ConfKind = ConfKind::Rule(RuleKind::PatternRefused);
+
+// Texts whose first pattern the maker refuses.
+const PATTERNS: [Row; 4] = [
+    (b"[uwsgi]\nroute = a break\n", Some((2, REFUSED))),
+    (b"[uwsgi]\nroute = a nothing\n", Some((2, REFUSED))),
+    (
+        b"[uwsgi]\nworkers = 0\nroute = a break\n",
+        Some((2, ConfKind::BadValue)),
+    ),
+    (
+        b"[uwsgi]\nroute = a break\nworkers = 0\n",
+        Some((2, REFUSED)),
+    ),
+];
+
+// Texts, and the patterns that the maker refuses.
+const TEXTS: [(&[Row], &[u64]); 6] = [
+    (&LINES, &[]),
+    (&CACHES, &[]),
+    (&AREAS, &[]),
+    (&TWO_TABLES, &[]),
+    (&RULES, &[]),
+    (&PATTERNS, &[1]),
+];
 
 #[test]
 fn each_refusal_names_its_line(rt: HostRuntime) -> Result<(), Fail> {
-    expect(&rt, rt.alloc(), &LINES)?;
-    expect(&rt, rt.alloc(), &CACHES)?;
-    expect(&rt, rt.alloc(), &AREAS)?;
-    expect(&rt, rt.alloc(), &TWO_TABLES)?;
-    expect(&rt, rt.alloc(), &RULES)?;
+    for (rows, refuse) in TEXTS {
+        for (text, want) in rows {
+            let found = refusal(&rt, rt.alloc(), text, refuse)?;
+            assert_eq!(rt; found, *want, "{text:?}");
+        }
+    }
     Ok(())
 }
 
 #[test]
 fn areas_and_tasks_say_what_they_say(rt: HostRuntime) -> Result<(), Fail> {
-    let conf = conf(
-        &rt,
-        rt.alloc(),
-        b"[uwsgi]\nsharedarea = 2\nspool-label = a\nsharedarea = size=10\n",
-    )?;
+    let text = b"[uwsgi]\nsharedarea = 2\nspool-label = a\nsharedarea = size=10\n";
+    let conf = read(&rt, rt.alloc(), text, &[])?;
     assert_eq!(rt; conf.areas.as_slice(), [8_192, 10].as_slice());
     assert_eq!(rt; (conf.routes.len(), conf.tasks.len()), (0, 1));
     Ok(())
 }
 
-// The refused line of a text where the first pattern is refused.
-fn fault_without_first_pattern(
-    rt: &impl Abort,
-    alloc: Global,
-    text: &[u8],
-) -> Result<Option<ConfFault>, Fail> {
-    assert!(rt; text.len() < 2_000_000);
-    let mut make = RegexPatterns::new([1].to_vec(alloc)?);
-    match read_conf(alloc, text, &mut make) {
-        Ok(_) => Ok(None),
-        Err(ConfError::Refused(fault)) => Ok(Some(fault)),
-        Err(ConfError::Memory) => Err(Fail::from(Memory)),
-    }
-}
-
-#[test]
-fn a_refused_pattern_names_its_line(rt: HostRuntime) -> Result<(), Fail> {
-    let refused = ConfKind::Rule(RuleKind::PatternRefused);
-    let rows: [(&[u8], Option<ConfFault>); 4] = [
-        (b"[uwsgi]\nroute = a break\n", at(2, refused)),
-        (b"[uwsgi]\nroute = a nothing\n", at(2, refused)),
-        (
-            b"[uwsgi]\nworkers = 0\nroute = a break\n",
-            at(2, ConfKind::BadValue),
-        ),
-        (b"[uwsgi]\nroute = a break\nworkers = 0\n", at(2, refused)),
-    ];
-    for (text, want) in rows {
-        let found = fault_without_first_pattern(&rt, rt.alloc(), text)?;
-        assert_eq!(rt; found, want, "{text:?}");
-    }
-    Ok(())
-}
-
+// Up to 16 lines of each kind are taken, and the 17th is refused.
 #[test]
 fn the_17th_area_and_the_17th_cache_are_bad_values(rt: HostRuntime) -> Result<(), Fail> {
-    let mut areas = b"[uwsgi]\n".to_vec(rt.alloc())?;
-    let mut caches = b"[uwsgi]\n".to_vec(rt.alloc())?;
-    for letter in b"abcdefghijklmnopq" {
-        assert_eq!(rt; fault(&rt, rt.alloc(), areas.as_slice())?, None);
-        assert_eq!(rt; fault(&rt, rt.alloc(), caches.as_slice())?, None);
-        areas.extend_from_slice(b"sharedarea = 1\n")?;
-        caches.extend_from_slice(b"cache2 = items=1,name=")?;
-        caches.push(*letter)?;
-        caches.push(b'\n')?;
+    let rows: [(&[u8], &[u8]); 2] = [
+        (b"sharedarea = 1", b""),
+        (b"cache2 = items=1,name=", b"abcdefghijklmnopq"),
+    ];
+    for (line, letters) in rows {
+        let mut text = b"[uwsgi]\n".to_vec(rt.alloc())?;
+        for count in 0..18 {
+            let want = if count == 17 {
+                Some((18, ConfKind::BadValue))
+            } else {
+                None
+            };
+            let found = refusal(&rt, rt.alloc(), text.as_slice(), &[])?;
+            assert_eq!(rt; found, want, "{line:?} {count}");
+            text.extend_from_slice(line)?;
+            if let Some(letter) = letters.get(count) {
+                text.push(*letter)?;
+            }
+            text.push(b'\n')?;
+        }
     }
-    let bad = at(18, ConfKind::BadValue);
-    assert_eq!(rt; fault(&rt, rt.alloc(), areas.as_slice())?, bad);
-    assert_eq!(rt; fault(&rt, rt.alloc(), caches.as_slice())?, bad);
     Ok(())
 }
 
 #[test]
 fn a_text_of_more_than_a_mebibyte_is_refused_as_a_whole(rt: HostRuntime) -> Result<(), Fail> {
-    let text = vec![in rt.alloc(); b';'; 1_048_577]?;
     let kind = ConfKind::TooLarge {
         bytes: 1_048_577,
         limit: 1_048_576,
     };
-    assert_eq!(rt; fault(&rt, rt.alloc(), text.as_slice())?, at(0, kind));
-    let text = vec![in rt.alloc(); b';'; 1_048_576]?;
-    assert_eq!(rt; fault(&rt, rt.alloc(), text.as_slice())?, None);
+    for (length, want) in [(1_048_577, Some((0, kind))), (1_048_576, None)] {
+        let text = vec![in rt.alloc(); b';'; length]?;
+        let found = refusal(&rt, rt.alloc(), text.as_slice(), &[])?;
+        assert_eq!(rt; found, want, "{length}");
+    }
     Ok(())
 }
 
@@ -388,22 +381,17 @@ cache2 = name=c,items=10,blocksize=100,bitmap=true,blocks=40,keysize=64,hashsize
 cache2 = name=d,name=e,max-items=70000,blocks=3,blocksize=8,key_size=16\nworkers = 3";
 
 #[test]
-fn options_say_what_they_say(rt: HostRuntime) -> Result<(), Fail> {
-    let conf = conf(&rt, rt.alloc(), TEXT)?;
-    assert_eq!(rt; conf.buffer_size, 8192);
-    assert_eq!(rt; conf.workers, 3);
-    assert_eq!(rt; conf.harakiri, 86_400);
-    assert_eq!(rt; conf.expire_freq, 5);
-    assert_eq!(rt; conf.spoolers, 2);
-    assert_eq!(rt; conf.spool_freq, 60);
+fn a_text_says_what_it_says(rt: HostRuntime) -> Result<(), Fail> {
+    let conf = read(&rt, rt.alloc(), TEXT, &[])?;
+    assert_eq!(rt;
+        (conf.buffer_size, conf.workers, conf.harakiri),
+        (8_192, 3, 86_400)
+    );
+    assert_eq!(rt;
+        (conf.expire_freq, conf.spoolers, conf.spool_freq),
+        (5, 2, 60)
+    );
     assert_eq!(rt; conf.socket.as_slice(), b"/tmp/a b = c".as_slice());
-    assert_eq!(rt; conf.caches.len(), 2);
-    Ok(())
-}
-
-#[test]
-fn caches_say_what_they_say(rt: HostRuntime) -> Result<(), Fail> {
-    let conf = conf(&rt, rt.alloc(), TEXT)?;
     let [c, e] = conf.caches.as_slice() else {
         return Err(Memory.into());
     };
@@ -420,16 +408,15 @@ fn caches_say_what_they_say(rt: HostRuntime) -> Result<(), Fail> {
 
 #[test]
 fn an_empty_text_says_the_defaults(rt: HostRuntime) -> Result<(), Fail> {
-    let conf = conf(&rt, rt.alloc(), b"")?;
+    let conf = read(&rt, rt.alloc(), b"", &[])?;
     assert_eq!(rt;
         (conf.buffer_size, conf.workers, conf.harakiri),
-        (4096, 1, 0)
+        (4_096, 1, 0)
     );
     assert_eq!(rt;
         (conf.expire_freq, conf.spoolers, conf.spool_freq),
         (3, 1, 30)
     );
-    assert_eq!(rt; conf.socket.len(), 0);
-    assert_eq!(rt; conf.caches.len(), 0);
+    assert_eq!(rt; (conf.socket.len(), conf.caches.len()), (0, 0));
     Ok(())
 }

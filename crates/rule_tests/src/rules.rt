@@ -100,17 +100,15 @@ fn refusal(
     }
 }
 
-// The kind of the refusal of one line.
+// The kind of the refusal of one line, alone in its table.
 fn kind(
     rt: &impl Abort,
     alloc: Global,
     form: &[u8],
     text: &[u8],
 ) -> Result<Option<RuleKind>, Memory> {
-    match refusal(rt, alloc, &[(form, text)], &[b"a", b"b"], &[])? {
-        Some((_, kind)) => Ok(Some(kind)),
-        None => Ok(None),
-    }
+    let refused = refusal(rt, alloc, &[(form, text)], &[b"a", b"b"], &[])?;
+    Ok(refused.map(|(_, kind)| kind))
 }
 
 const TAKEN: [Row; 43] = [
@@ -373,19 +371,6 @@ const UNKNOWN_NAMES: [Row; 5] = [
     ),
 ];
 
-// Whether each line has this refusal, or none, alone in its table.
-fn expect(
-    rt: &impl Abort,
-    alloc: Global,
-    rows: &[Row],
-    want: Option<RuleKind>,
-) -> Result<(), Memory> {
-    for (form, text) in rows {
-        assert_eq!(rt; kind(rt, alloc, form, text)?, want, "{text:?}");
-    }
-    Ok(())
-}
-
 // Lines, each alone in its table, and the refusal that each of them has.
 const REFUSALS: [(&[Row], Option<RuleKind>); 13] = [
     (&TAKEN, None),
@@ -408,7 +393,10 @@ const REFUSALS: [(&[Row], Option<RuleKind>); 13] = [
 #[test]
 fn each_line_has_its_refusal_or_none(rt: HostRuntime) -> Result<(), Fail> {
     for (rows, want) in REFUSALS {
-        expect(&rt, rt.alloc(), rows, want)?;
+        for (form, text) in rows {
+            let found = kind(&rt, rt.alloc(), form, text)?;
+            assert_eq!(rt; found, want, "{text:?}");
+        }
     }
     Ok(())
 }
@@ -505,80 +493,122 @@ fn each_table_has_its_first_refused_line_or_none(rt: HostRuntime) -> Result<(), 
     Ok(())
 }
 
-// A text of so many copies.
-fn copies(alloc: Global, front: &[u8], text: &[u8], count: u32) -> Result<Bytes, Memory> {
-    let mut bytes = Bytes::from_slice(alloc, front)?;
-    for _ in 0..count {
-        bytes.append(text)?;
-    }
-    Ok(bytes)
+// Large texts: their option; their front, a piece that follows so many times, another one, and their end; and the
+// refusal of each, alone in its table.
+#[derive(Clone, Copy)]
+struct Large {
+    form: &'static [u8],
+    front: &'static [u8],
+    pieces: [(&'static [u8], usize); 2],
+    end: &'static [u8],
+    want: Option<RuleKind>,
 }
+
+const LARGE: [Large; 6] = [
+    Large {
+        form: b"route",
+        front: b"",
+        pieces: [(b"a", 60_000), (b"", 0)],
+        end: b" continue",
+        want: Some(RuleKind::PatternRefused),
+    },
+    Large {
+        form: b"route",
+        front: b"",
+        pieces: [(b"(", 1_000), (b")", 1_000)],
+        end: b" continue",
+        want: Some(RuleKind::BadPattern),
+    },
+    Large {
+        form: b"route-run",
+        front: b"send:",
+        pieces: [(b"${", 60_000), (b"", 0)],
+        end: b"",
+        want: Some(RuleKind::BadTemplate),
+    },
+    Large {
+        form: b"route-run",
+        front: b"send:",
+        pieces: [(b"${a}", 60_000), (b"", 0)],
+        end: b"",
+        want: None,
+    },
+    Large {
+        form: b"route-run",
+        front: b"cache:key=k",
+        pieces: [(b",key=k", 1_000), (b"", 0)],
+        end: b"",
+        want: Some(RuleKind::BadRule),
+    },
+    Large {
+        form: b"route-run",
+        front: b"cache:key=k",
+        pieces: [(b",", 300_000), (b"", 0)],
+        end: b"",
+        want: Some(RuleKind::BadRule),
+    },
+];
 
 #[test]
 fn large_texts_have_their_one_answer(rt: HostRuntime) -> Result<(), Fail> {
-    let alloc = rt.alloc();
-    let mut long = copies(alloc, b"", b"a", 60_000)?;
-    long.append(b" continue")?;
-    assert_eq!(rt;
-        kind(&rt, alloc, b"route", long.as_slice())?,
-        Some(RuleKind::PatternRefused)
-    );
-    let mut deep = copies(alloc, b"", b"(", 1_000)?;
-    deep.append(copies(alloc, b"", b")", 1_000)?.as_slice())?;
-    deep.append(b" continue")?;
-    assert_eq!(rt;
-        kind(&rt, alloc, b"route", deep.as_slice())?,
-        Some(RuleKind::BadPattern)
-    );
-    let open = copies(alloc, b"send:", b"${", 60_000)?;
-    assert_eq!(rt;
-        kind(&rt, alloc, b"route-run", open.as_slice())?,
-        Some(RuleKind::BadTemplate)
-    );
-    let closed = copies(alloc, b"send:", b"${a}", 60_000)?;
-    assert_eq!(rt; kind(&rt, alloc, b"route-run", closed.as_slice())?, None);
-    let pairs = copies(alloc, b"cache:key=k", b",key=k", 1_000)?;
-    assert_eq!(rt;
-        kind(&rt, alloc, b"route-run", pairs.as_slice())?,
-        Some(RuleKind::BadRule)
-    );
-    let strays = copies(alloc, b"cache:key=k", b",", 300_000)?;
-    assert_eq!(rt;
-        kind(&rt, alloc, b"route-run", strays.as_slice())?,
-        Some(RuleKind::BadRule)
-    );
+    for large in LARGE {
+        let Large {
+            form,
+            front,
+            pieces,
+            end,
+            want,
+        } = large;
+        let mut text = front.to_vec(rt.alloc())?;
+        for (piece, count) in pieces {
+            for _ in 0..count {
+                text.extend_from_slice(piece)?;
+            }
+        }
+        text.extend_from_slice(end)?;
+        let found = kind(&rt, rt.alloc(), form, text.as_slice())?;
+        assert_eq!(rt; found, want, "{front:?}");
+    }
     Ok(())
 }
+
+const NOT_AHEAD: RulesError = RulesError::Refused {
+    line: 1,
+    kind: RuleKind::LabelNotAhead,
+};
+
+const TOO_MANY: RulesError = RulesError::Refused {
+    line: 4_097,
+    kind: RuleKind::TooManyRules,
+};
+
+const CONTINUE: Row = (b"route-run", b"continue");
+
+const GOTO: Row = (b"route-run", b"goto:end");
+
+// The first line of a table, the last one behind 4095 others where there is one, and what the table says.
+const FULL: [(Row, Option<Row>, Result<usize, RulesError>); 4] = [
+    (GOTO, None, Err(NOT_AHEAD)),
+    (GOTO, Some((b"route-label", b"end")), Err(NOT_AHEAD)),
+    (CONTINUE, None, Ok(4_096)),
+    (CONTINUE, Some((b"route-label", b"a b")), Err(TOO_MANY)),
+];
 
 #[test]
 fn a_table_has_4096_rules(rt: HostRuntime) -> Result<(), Fail> {
     let alloc = rt.alloc();
-    let mut lines = RuleLineList::new(alloc);
-    put(alloc, &mut lines, b"route-run", b"goto:end")?;
-    for _ in 1..4_096 {
-        put(alloc, &mut lines, b"route-run", b"continue")?;
+    for ((form, text), last, want) in FULL {
+        let mut lines = RuleLineList::new(alloc);
+        put(alloc, &mut lines, form, text)?;
+        for _ in 1..4_096 {
+            put(alloc, &mut lines, b"route-run", b"continue")?;
+        }
+        if let Some((form, text)) = last {
+            put(alloc, &mut lines, form, text)?;
+        }
+        let found = outcome(read(&rt, alloc, &lines, &[], &[]));
+        assert_eq!(rt; found, want, "{text:?} {last:?}");
     }
-    assert!(rt; lines.len() == 4_096);
-    let at = |line, kind| Err(RulesError::Refused { line, kind });
-    assert_eq!(rt;
-        outcome(read(&rt, alloc, &lines, &[], &[])),
-        at(1, RuleKind::LabelNotAhead)
-    );
-    put(alloc, &mut lines, b"route-label", b"end")?;
-    assert_eq!(rt;
-        outcome(read(&rt, alloc, &lines, &[], &[])),
-        at(1, RuleKind::LabelNotAhead)
-    );
-    let mut lines = RuleLineList::new(alloc);
-    for _ in 0..4_096 {
-        put(alloc, &mut lines, b"route-run", b"continue")?;
-    }
-    assert_eq!(rt; outcome(read(&rt, alloc, &lines, &[], &[])), Ok(4_096));
-    put(alloc, &mut lines, b"route-label", b"a b")?;
-    assert_eq!(rt;
-        outcome(read(&rt, alloc, &lines, &[], &[])),
-        at(4_097, RuleKind::TooManyRules)
-    );
     Ok(())
 }
 
@@ -620,8 +650,7 @@ fn rules_name_subjects_caches_and_rules(rt: HostRuntime) -> Result<(), Fail> {
             action: Action::Goto { rule },
         } => {
             assert_eq!(rt; subject.variable(), b"HTTP_HOST".as_slice());
-            assert_eq!(rt; pattern.as_str(), "^www\\.");
-            assert_eq!(rt; *rule, 2);
+            assert_eq!(rt; (pattern.as_str(), *rule), ("^www\\.", 2));
         }
         _ => panic!(rt; "a pattern and a goto"),
     }
@@ -633,14 +662,16 @@ fn rules_name_subjects_caches_and_rules(rt: HostRuntime) -> Result<(), Fail> {
             },
             action: Action::CacheSet(write),
         } => {
-            assert!(rt; *negated);
-            assert_eq!(rt; fixed(text), b"x".as_slice());
-            assert_eq!(rt; fixed(other), b"y".as_slice());
-            assert_eq!(rt; fixed(&write.key), b"k".as_slice());
-            assert_eq!(rt; fixed(&write.value), b"v".as_slice());
-            assert_eq!(rt; write.expires, 5);
-            assert_eq!(rt; write.cache, Some(1));
-            assert!(rt; write.var.is_some());
+            assert!(rt; *negated && write.var.is_some());
+            let texts: [&[u8]; 4] = [b"x", b"y", b"k", b"v"];
+            let found = [
+                fixed(text),
+                fixed(other),
+                fixed(&write.key),
+                fixed(&write.value),
+            ];
+            assert_eq!(rt; found, texts);
+            assert_eq!(rt; (write.expires, write.cache), (5, Some(1)));
         }
         _ => panic!(rt; "a condition and a write"),
     }
@@ -657,11 +688,8 @@ fn rules_name_subjects_caches_and_rules(rt: HostRuntime) -> Result<(), Fail> {
                 ..
             },
         } => {
-            assert_eq!(rt; *op, MathOp::Inc);
             assert_eq!(rt; fixed(key), b"n".as_slice());
-            assert_eq!(rt; *amount, 1);
-            assert_eq!(rt; *expires, 0);
-            assert_eq!(rt; *cache, None);
+            assert_eq!(rt; (*op, *amount, *expires, *cache), (MathOp::Inc, 1, 0, None));
         }
         _ => panic!(rt; "a calculation"),
     }
@@ -702,8 +730,7 @@ fn rules_of_tasks_name_areas_and_variables(rt: HostRuntime) -> Result<(), Fail> 
             action: Action::Area { area, step, .. },
             ..
         } => {
-            assert_eq!(rt; *area, 3);
-            assert_eq!(rt; *step, counted);
+            assert_eq!(rt; (*area, *step), (3, counted));
         }
         _ => panic!(rt; "an area"),
     }
@@ -715,10 +742,14 @@ fn rules_of_tasks_name_areas_and_variables(rt: HostRuntime) -> Result<(), Fail> 
             let [first, last] = pairs.as_slice() else {
                 panic!(rt; "two variables");
             };
-            assert_eq!(rt; first.key.as_slice(), b"a".as_slice());
-            assert_eq!(rt; fixed(&first.value), b"b=c".as_slice());
-            assert_eq!(rt; last.key.as_slice(), b"".as_slice());
-            assert_eq!(rt; fixed(&last.value), b"d".as_slice());
+            let texts: [&[u8]; 4] = [b"a", b"b=c", b"", b"d"];
+            let found = [
+                first.key.as_slice(),
+                fixed(&first.value),
+                last.key.as_slice(),
+                fixed(&last.value),
+            ];
+            assert_eq!(rt; found, texts);
         }
         _ => panic!(rt; "a task"),
     }

@@ -3,9 +3,9 @@ pub mod Cutting
 pub mod LoadLemmas
 pub mod Machine
 pub mod OneWayLemmas
-pub mod Packets
 pub mod Parts
 pub mod SameEndLemmas
+pub mod Settling
 pub mod SpoolLemmas
 pub mod Standing
 pub mod StandingRounds

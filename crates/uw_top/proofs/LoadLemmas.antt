@@ -1,10 +1,10 @@
 -- The packets of a load, one after the other, and their figures.
-use Rattle.std.proofs.Common.{◌≡◌, ℕ, ◌+◌, ◌*◌, ◌/◌, ◌%◌, ◌^◌, ◌<◌, ◌≤◌, ℤ, Bool, true, false, cond, ltb, List, [], ◌∷◌, ◌++◌, length, take, Option, None, Some, Result, Ok, Err, codes, refl, sym, ap, subst, lit<, lit≤, ◌∙◌, arith, length-append, leb, eqb, ◌&&◌}
+use Rattle.std.proofs.Common.{◌≡◌, ℕ, suc, inl, inr, ◌+◌, ◌*◌, ◌/◌, ◌%◌, ◌^◌, ◌<◌, ◌≤◌, ℤ, Bool, true, false, cond, ltb, List, [], ◌∷◌, ◌++◌, length, take, Option, None, Some, Result, Ok, Err, codes, refl, sym, ap, subst, lit<, lit≤, ◌∙◌, arith, length-append, leb, eqb, ◌&&◌}
 use Rattle.std.proofs.lemmas.List.{append-nil}
 use Rattle.std.proofs.lemmas.Option.{none-some}
 use Rattle.std.specs.Fmt.{decimal}
 use Rattle.std.specs.List.{list_all, AllByRecursion}
-use Rattle.std.proofs.lemmas.Bool.{le-ltb, lt-ltb}
+use Rattle.std.proofs.lemmas.Bool.{false≢true, le-ltb, lt-ltb}
 use Rattle.std.proofs.lemmas.Fmt.{length-decimal-le}
 use Rattle.uw_base.specs.declared.variables.Pair.{Pair}
 use Rattle.uw_outside.specs.Faults.{HasCause}
@@ -22,7 +22,7 @@ use Rattle.uw_model.specs.declared.asks.Ask.{Ask}
 use Rattle.uw_model.specs.declared.asks.Ask.TheVariants as asks
 use Rattle.uw_model.specs.declared.asks.AskAnswer.{AskAnswer}
 use Rattle.uw_model.specs.declared.asks.Asked.{Asked}
-use Rattle.uw_model.specs.Asks.{Asking, answered_at, of_desk}
+use Rattle.uw_model.specs.Asks.{Asking, AsksNothing, answered_at, of_desk}
 use Rattle.uw_model.specs.ListState.{ListState}
 use Rattle.uw_model.specs.Caches.{empty_caches}
 use Rattle.uw_model.specs.Lists.{LeadsLists, Lists}
@@ -30,10 +30,11 @@ use Rattle.uw_cachecmd.specs.declared.commands.CmdFault.{CmdFault}
 use Rattle.uw_cachecmd.specs.declared.commands.Kind.{Kind}
 use Rattle.uw_cachecmd.specs.Commands.{commanded, command_block_ask}
 use Rattle.uw_chain.specs.Courses.{Course, Unfolds, asking, ended}
+use Rattle.uw_chain.specs.declared.faults.ChainEnd.TheVariants as chains
+use Rattle.uw_chain.specs.Runs.{Stops}
 use Rattle.uw_keeper.specs.InMemory.{KeptRows}
 use Rattle.uw_chain.specs.Spooling.{both_led, kept_by}
 use Rattle.uw_conf.specs.declared.conf.Options.{Options}
-use Rattle.uw_conf.proofs.SizeLemmas.{AllByRecursion-push}
 use Rattle.uw_ends.specs.declared.ends.RunFault.{RunFault}
 use Rattle.uw_ends.specs.declared.ends.RunFault.TheVariants as faults
 use Rattle.uw_top.specs.declared.load.Figures.{Figures}
@@ -41,14 +42,15 @@ use Rattle.uw_session.specs.declared.answering.Answered.{Answered}
 use Rattle.uw_session.specs.declared.faults.ServeFault.{ServeFault}
 use Rattle.uw_session.specs.declared.faults.ServeFault.TheVariants as serves
 use Rattle.uw_outside.specs.Streams.{Outflow}
-use Rattle.uw_session.specs.Exchange.{Exchange, IsAccepted, Site, ask_reply, asked_by, broken_command, course_of_command, header_refusal, names_of}
+use Rattle.uw_session.specs.Exchange.{Exchange, IsAccepted, Site, ask_reply, asked_by, broken_command, course_of_command, course_of_site, header_refusal, names_of}
 use Rattle.uw_session.specs.Serving.{AnswersPacket}
 use Rattle.uw_top.specs.Pipe.{list_leads, unbounded}
 use Rattle.uw_top.specs.Replying.{Reply, replied, reply_of}
 use Rattle.uw_top.specs.Pipe.{has_failed_to_write}
-use Rattle.uw_top.specs.Load.{LoadEndsBy, LoadRun, block_for, figures_from, figures_text, head_for, next_number, no_figures, packet_for, packets_from, variables_for, with_reply}
-use Rattle.uw_top.specs.LoadSteps.{AnswersNumber, IsLoaded, WritesText, answer_behind, caches_from, number_after}
-use Rattle.uw_top.proofs.Packets.{caches_from-push}
+use Rattle.uw_top.specs.Load.{LoadEndsBy, LoadRun, block_for, figures_from, figures_text, head_for, load_text, next_number, no_figures, packet_for, packets_from, variables_for, with_reply}
+use Rattle.uw_top.specs.LoadSteps.{AnswersNumber, IsLoadTurn, IsLoaded, LoadLeads, LoadOver, LoadStops, LoadTurn, WritesText, answer_behind, desk_led, figures_by, load_moments, number_after, unanswered_by}
+use Rattle.uw_top.proofs.Standing.{LedOn, StandsOn, stops_on}
+use Rattle.uw_top.proofs.StandingRounds.{desk_on}
 
 -- ---- the block of a generated packet
 
@@ -213,44 +215,59 @@ command_replied lists after moment m2 (Err fault) [] written of_cache course led
     record { text = sym (ap reply_told course); answer = refl; caches = ap (λ (l : Lists). l.caches) led }
 command_replied lists after moment m2 (Err fault) (a ∷ more) written of_cache course led = absurd course
 
--- which asks lead plain lists from which to which, and beside them a keeper
-abbrev pub beside : Lists → Lists → (List Asking → Type 0) → List Asking → ℕ → Type 0
-beside lists after kept asked writes = both_led (list_leads lists after) kept asked writes
-
 -- tasks led a keeper in memory on
 abbrev pub kept_in_memory : KeptRows → KeptRows → List Asking → Type 0
 kept_in_memory before now asked = kept_by (λ (k : KeptRows). Some k.rows) (λ (k : KeptRows). k.append_faults) (λ (k : KeptRows). k.other_faults) before now asked
 
--- what an immortal worker did with a packet over plain lists
-abbrev Answering : Lists → Lists → (List Asking → Type 0) → Site → ℕ → Header → List ℕ → Result Answered ServeFault → Type 0
-Answering lists after kept site moment head block result = AnswersPacket (beside lists after kept) unbounded unbounded site moment head block result
+-- ---- what an immortal worker did with a generated packet
 
--- the same of a packet that is the generated one by two equations
-as_generated : (lists after : Lists) (kept : List Asking → Type 0) (site : Site) (moment x : ℕ) (head : Header) (block : List ℕ) (result : Result Answered ServeFault)
-    → head ≡ head_for x → block ≡ block_for x
-    → Answering lists after kept site moment head block result → Answering lists after kept site moment (head_for x) (block_for x) result
-as_generated lists after kept site moment x head block result made filled a =
-    subst (λ (b : List ℕ). Answering lists after kept site moment (head_for x) b result) filled
-    (subst (λ (h : Header). Answering lists after kept site moment h block result) made a)
+-- nothing was asked of a desk, nor of one that is more
+asks_nothing_of : (led told : List Asking → ℕ → Type 0) → ((asked : List Asking) (writes : ℕ) → led asked writes → told asked writes) → AsksNothing led unbounded unbounded
+    → AsksNothing told unbounded unbounded
+asks_nothing_of led told less none = (less [] 0 none.0, none.1)
 
-pub generated_answered : (lists after : Lists) (kept : List Asking → Type 0) (site : Site) (moment x : ℕ) (head : Header) (block : List ℕ) (answered : Answered)
-    → x < 2 ^ 31 → head ≡ head_for x → block ≡ block_for x → header_refusal site.options head ≡ None
-    → AnswersPacket (beside lists after kept) unbounded unbounded site moment head block (Ok answered)
-    → AnswersNumber site.options lists.caches after.caches (packet_for moment x) (Ok answered)
-generated_answered lists after kept site moment x head block answered small made filled accepted a =
-    let same = as_generated lists after kept site moment x head block (Ok answered) made filled a in
-    let taken = subst (λ (h : Header). header_refusal site.options h ≡ None) made accepted in
-    let reply = command_replied lists after moment 200 (asked_by site.options (head_for x) (block_for x)) answered.asks answered.reply
-    (generated_of_cache site.options x) same.1.0 same.1.1.1.0 in
-    (generated_is_whole site.options moment x small taken, reply.text, reply.answer, reply.caches)
+-- the same, where there was no memory
+stops_of : (led told : List Asking → ℕ → Type 0) → ((asked : List Asking) (writes : ℕ) → led asked writes → told asked writes) → (moment : ℕ) (course : Course (List ℕ))
+    (asked : List Asked) → Stops led unbounded unbounded moment course asked chains.Memory → Stops told unbounded unbounded moment course asked chains.Memory
+stops_of led told less moment course asked (inl found) = inl (found.0, found.1, (found.2.0, less _ _ found.2.1, found.2.2))
+stops_of led told less moment course asked (inr broken) =
+    inr (broken.0, broken.1, broken.2, (broken.3.0, less _ _ broken.3.1, broken.3.2))
 
--- a generated block is never out of its grammar
-pub generated_unbroken : (lists after : Lists) (kept : List Asking → Type 0) (site : Site) (moment x : ℕ) (head : Header) (block : List ℕ) (at : ℕ)
-    → x < 2 ^ 31 → head ≡ head_for x → block ≡ block_for x
-    → AnswersPacket (beside lists after kept) unbounded unbounded site moment head block (Err (serves.BadBlock at)) → ⊥
-generated_unbroken lists after kept site moment x head block at small made filled a =
-    let same = as_generated lists after kept site moment x head block (Err (serves.BadBlock at)) made filled a in
-    none-some at (sym (generated_whole site.options x small) ∙ same.0)
+-- what an immortal worker did with a packet over a desk, and a keeper beside it
+abbrev Answering : {S : Type 0} → (S → S → List Asking → ℕ → Type 0) → S → S → (List Asking → Type 0) → Site → ℕ → Header → List ℕ → Result Answered ServeFault → Type 0
+Answering leads a b kept site moment head block result = AnswersPacket (both_led (leads a b) kept) unbounded unbounded site moment head block result
+
+module _ {S : Type 0} (leads : S → S → List Asking → ℕ → Type 0) (a b : S) (kept : List Asking → Type 0) (site : Site) (moment x : ℕ) (head : Header) (block : List ℕ)
+    (small : x < 2 ^ 31) (made : head ≡ head_for x) (filled : block ≡ block_for x) where
+  -- the same of the generated packet
+  as_generated : (result : Result Answered ServeFault) → Answering leads a b kept site moment head block result → Answering leads a b kept site moment (head_for x) (block_for x) result
+  as_generated result answering =
+      subst (λ (text : List ℕ). Answering leads a b kept site moment (head_for x) text result) filled (subst (λ (h : Header). Answering leads a b kept site moment h block result) made answering)
+
+  -- those of the desk are what led both on
+  of_both : (asked : List Asking) (writes : ℕ) → both_led (leads a b) kept asked writes → desk_led leads a b asked writes
+  of_both asked writes led = led.0
+
+  -- it was answered
+  pub generated_answered : (answered : Answered) → header_refusal site.options head ≡ None → Answering leads a b kept site moment head block (Ok answered)
+      → AnswersNumber leads site a b moment x (Ok answered)
+  generated_answered answered accepted answering =
+      let same = as_generated (Ok answered) answering in
+      let taken = subst (λ (h : Header). header_refusal site.options h ≡ None) made accepted in
+      let led = same.1.1 in
+      (generated_is_whole site.options moment x small taken, (same.1.0, (led.0, of_both (answered_at moment answered.asks ++ []) led.0 led.1, led.2)))
+
+  -- it was not: there was no memory, since its block is never out of its grammar, and an immortal worker is not dead
+  pub generated_unanswered : (fault : ServeFault) → Answering leads a b kept site moment head block (Err fault) → AnswersNumber leads site a b moment x (Err (unanswered_by fault))
+  generated_unanswered fault answering = go fault (as_generated (Err fault) answering)
+    where
+      go : (fault : ServeFault) → Answering leads a b kept site moment (head_for x) (block_for x) (Err fault) → AnswersNumber leads site a b moment x (Err (unanswered_by fault))
+      go (serves.BadBlock at) same = absurd (none-some at (sym (generated_whole site.options x small) ∙ same.0))
+      go (serves.Memory done) (inl before) = inl (asks_nothing_of (both_led (leads a b) kept) (desk_led leads a b) of_both before.1)
+      go (serves.Memory done) (inr behind) = inr (done, stops_of (both_led (leads a b) kept) (desk_led leads a b) of_both moment _ done behind.1)
+      go (serves.Died true done) same = absurd (false≢true same.1.0)
+      go (serves.Died false done) same = absurd (false≢true same.1.0)
+      go _ same = absurd same
 
 -- ---- packets, one after the other
 
@@ -263,127 +280,239 @@ number_after-push : (x : ℕ) (moments : List ℕ) (moment : ℕ) → number_aft
 number_after-push x [] moment = refl
 number_after-push x (m ∷ moments) moment = number_after-push (next_number x) moments moment
 
--- the figures of packets and of one more
-figures_from-push : (conf : Options) (caches : List ListState) (f : Figures) (xs : List Exchange) (x : Exchange)
-    → figures_from conf caches f (xs ++ x ∷ []) ≡ with_reply (figures_from conf caches f xs) (reply_of conf (caches_from conf caches xs) x).answer (reply_of conf (caches_from conf caches xs) x).text
-figures_from-push conf caches f [] x = refl
-figures_from-push conf caches f (y ∷ xs) x =
-    figures_from-push conf (reply_of conf caches y).caches (with_reply f (reply_of conf caches y).answer (reply_of conf caches y).text) xs x
+-- the moments of turns and of one more
+load_moments-push : (turns : List LoadTurn) (t : LoadTurn) → load_moments (turns ++ t ∷ []) ≡ load_moments turns ++ t.moment ∷ []
+load_moments-push [] t = refl
+load_moments-push (first ∷ turns) t = ap (λ (rest : List ℕ). first.moment ∷ rest) (load_moments-push turns t)
+
+length-load_moments : (turns : List LoadTurn) → length (load_moments turns) ≡ length turns
+length-load_moments [] = refl
+length-load_moments (t ∷ turns) = ap suc (length-load_moments turns)
+
+-- the figures of turns and of one more
+figures_by-push : (f : Figures) (turns : List LoadTurn) (t : LoadTurn) → figures_by f (turns ++ t ∷ []) ≡ with_reply (figures_by f turns) (answer_behind t.asked) t.reply
+figures_by-push f [] t = refl
+figures_by-push f (first ∷ turns) t = figures_by-push (with_reply f (answer_behind first.asked) first.reply) turns t
 
 -- one packet more in the figures
 pub packets_more : (f g : Figures) (answer : Option Answer) (text : List ℕ) (served : ℕ) → g ≡ with_reply f answer text → f.packets ≡ served → g.packets ≡ served + 1
 packets_more f g answer text served more so_far = ap (λ (h : Figures). h.packets) more ∙ ap (λ (n : ℕ). n + 1) so_far
 
--- the answer to the next number of a load
-as_next : (conf : Options) (held after : List ListState) (moment number next : ℕ) (result : Result Answered RunFault) → next ≡ next_number number
-    → AnswersNumber conf held after (packet_for moment next) result → AnswersNumber conf held after (packet_for moment (next_number number)) result
-as_next conf held after moment number next result step a = subst (λ (n : ℕ). AnswersNumber conf held after (packet_for moment n) result) step a
-
--- one packet more
-pub one_loaded : {Clk : Type 0} (gave : Clk → Clk → List ℕ → Type 0)
-    (gave_more : (a b c : Clk) (early late : List ℕ) → gave a b early → gave b c late → gave a c (early ++ late))
-    (conf : Options) (first number next : ℕ) (held after : List ListState) (f g : Figures) (clock mid later : Clk) (moment served : ℕ) (answered : Answered)
-    → next ≡ next_number number → g ≡ with_reply f (answer_behind answered.asks) answered.reply
-    → IsLoaded conf first number held f (gave clock mid) served → gave mid later (moment ∷ [])
-    → AnswersNumber conf held after (packet_for moment next) (Ok answered)
-    → IsLoaded conf first next after g (gave clock later) (served + 1)
-one_loaded gave gave_more conf first number next held after f g clock mid later moment served answered step counted s told a =
-    let ms = s.moments in
-    let empty = empty_caches conf.caches in
-    let xs = packets_from first ms in
-    let x = packet_for moment (next_number (number_after first ms)) in
-    let pushed = packets_from-push first ms moment in
-    let reply = reply_of conf (caches_from conf empty xs) x in
-    let figures = figures_from conf empty no_figures xs in
-    let stepped = as_next conf held after moment number next (Ok answered) step a in
-    let numbered = subst (λ (n : ℕ). AnswersNumber conf held after (packet_for moment (next_number n)) (Ok answered)) s.last stepped in
-    let is = subst (λ (c : List ListState). AnswersNumber conf c after x (Ok answered)) s.caches numbered in
-    record {
-      moments = ms ++ moment ∷ [];
-      answered = subst (λ (ys : List Exchange). AllByRecursion (IsAccepted conf) ys) (sym pushed) (AllByRecursion-push (IsAccepted conf) xs x s.answered is.0);
-      told = gave_more clock mid later ms (moment ∷ []) s.told told;
-      last = step ∙ ap next_number s.last ∙ sym (number_after-push first ms moment);
-      caches = is.3 ∙ sym (ap (λ (ys : List Exchange). caches_from conf empty ys) pushed ∙ caches_from-push conf empty xs x);
-      figures =
-          counted
-          ∙ ap (λ (h : Figures). with_reply h (answer_behind answered.asks) answered.reply) s.figures
-          ∙ ap (λ (answer : Option Answer). with_reply figures answer answered.reply) is.2
-          ∙ ap (λ (text : List ℕ). with_reply figures reply.answer text) is.1
-          ∙ sym (ap (λ (ys : List Exchange). figures_from conf empty no_figures ys) pushed ∙ figures_from-push conf empty no_figures xs x);
-      count = length-append ms (moment ∷ []) ∙ ap (λ (n : ℕ). n + 1) s.count;
-    }
-
--- ---- how a load ends
-
 -- a sink in which nothing was written
 abbrev pub unwritten : Option (List ℕ) → ℕ → Outflow
 unwritten taken faults = record { before = taken; now = taken; faults_before = faults; faults_now = faults }
 
--- a packet was not answered
-pub load_stops : {Clk : Type 0} (gave : Clk → Clk → List ℕ → Type 0)
-    (gave_more : (a b c : Clk) (early late : List ℕ) → gave a b early → gave b c late → gave a c (early ++ late))
-    (conf : Options) (first number next count : ℕ) (held after : List ListState) (f : Figures) (taken : Option (List ℕ)) (f0 : ℕ) (clock mid later : Clk) (moment served : ℕ) (fault : RunFault)
-    → next ≡ next_number number → served < count
-    → IsLoaded conf first number held f (gave clock mid) served → gave mid later (moment ∷ [])
-    → AnswersNumber conf held after (packet_for moment next) (Err fault)
-    → LoadRun conf first count (unwritten taken f0) (gave clock later) (Some fault)
-load_stops gave gave_more conf first number next count held after f taken f0 clock mid later moment served (faults.BadPacket packet) step more s told a =
-    let ms = s.moments in
-    let stepped = as_next conf held after moment number next (Err (faults.BadPacket packet)) step a in
-    let refused = subst (λ (n : ℕ). AnswersNumber conf held after (packet_for moment (next_number n)) (Err (faults.BadPacket packet))) s.last stepped in
-    record {
-      moments = ms;
-      late = moment ∷ [];
-      part = [];
-      answered = s.answered;
-      few = omega (arith, s.count);
-      told = gave_more clock mid later ms (moment ∷ []) s.told told;
-      written = Gives-none taken;
-      writes = HasCause-none f0 f0 refl;
-      ending = (omega (arith, s.count), refl, (moment, packet_for moment (next_number (number_after first ms)), refl, packets_from-push first ms moment, refused));
-    }
-load_stops gave gave_more conf first number next count held after f taken f0 clock mid later moment served faults.Memory step more s told a = record {
-  moments = s.moments;
-  late = moment ∷ [];
-  part = [];
-  answered = s.answered;
-  few = omega (arith, s.count);
-  told = gave_more clock mid later s.moments (moment ∷ []) s.told told;
-  written = Gives-none taken;
-  writes = HasCause-none f0 f0 refl;
-  ending = (refl, omega arith);
-}
-load_stops gave gave_more conf first number next count held after f taken f0 clock mid later moment served _ step more s told a = absurd a
+module _ {S : Type 0} (leads : S → S → List Asking → ℕ → Type 0) (site : Site) where
+  -- turns and one more
+  LoadLeads-push : (x : ℕ) (a b c : S) (turns : List LoadTurn) (t : LoadTurn) → LoadLeads leads site x a turns b
+      → IsLoadTurn leads site (next_number (number_after x (load_moments turns))) b c t → LoadLeads leads site x a (turns ++ t ∷ []) c
+  LoadLeads-push x a b c [] t same last = (c, subst (λ (from : S). IsLoadTurn leads site (next_number x) from c t) same last, refl)
+  LoadLeads-push x a b c (first ∷ turns) t led last = (led.0, led.1, LoadLeads-push (next_number x) led.0 b c turns t led.2 last)
 
--- all packets were answered, and this was written
-all_loaded : {Clk : Type 0} (gave : Clk → Clk → List ℕ → Type 0)
-    (conf : Options) (first number count : ℕ) (held : List ListState) (f : Figures) (w : Outflow) (clock mid : Clk) (served : ℕ) (part : List ℕ) (fault : Option RunFault)
-    → served ≡ count → (s : IsLoaded conf first number held f (gave clock mid) served) → Gives w.before w.now part → HasCause w.faults_before w.faults_now (has_failed_to_write fault)
-    → LoadEndsBy conf (record { first = first; count = count; snk = w; moments = s.moments; late = []; part = part }) fault
-    → LoadRun conf first count w (gave clock mid) fault
-all_loaded gave conf first number count held f w clock mid served part fault all s written writes ending = record {
-  moments = s.moments;
-  late = [];
-  part = part;
-  answered = s.answered;
-  few = omega (arith, s.count);
-  told = rw append-nil s.told;
-  written = written;
-  writes = writes;
-  ending = ending;
-}
+  -- the answer to the number that follows the last one
+  as_next : (a b : S) (moment first number next : ℕ) (turns : List LoadTurn) (result : Result Answered RunFault) → next ≡ next_number number
+      → number ≡ number_after first (load_moments turns) → AnswersNumber leads site a b moment next result
+      → AnswersNumber leads site a b moment (next_number (number_after first (load_moments turns))) result
+  as_next a b moment first number next turns result step last answers =
+      subst (λ (n : ℕ). AnswersNumber leads site a b moment n result) (step ∙ ap next_number last) answers
 
--- all packets were answered, and their figures were to be written
-pub load_ends : {Clk : Type 0} (gave : Clk → Clk → List ℕ → Type 0)
-    (conf : Options) (first number count : ℕ) (held : List ListState) (f : Figures) (w : Outflow) (clock mid : Clk) (served : ℕ) (fault : Option RunFault)
-    → served ≡ count → IsLoaded conf first number held f (gave clock mid) served → WritesText (figures_text f) w fault → HasCause w.faults_before w.faults_now (has_failed_to_write fault)
-    → LoadRun conf first count w (gave clock mid) fault
-load_ends gave conf first number count held f w clock mid served None all s t cause =
-    all_loaded gave conf first number count held f w clock mid served (figures_text f) None all s t cause (s.count ∙ all, refl, ap figures_text s.figures)
-load_ends gave conf first number count held f w clock mid served (Some faults.WriteFault) all s t cause =
-    let text = ap figures_text s.figures in
-    all_loaded gave conf first number count held f w clock mid served (take t.1.0 (figures_text f)) (Some faults.WriteFault) all s t.1.2 cause
-    (t.0, s.count ∙ all, refl, (t.1.0, subst (λ (b : List ℕ). t.1.0 < length b) text t.1.1, ap (λ (b : List ℕ). take t.1.0 b) text))
-load_ends gave conf first number count held f w clock mid served (Some faults.Memory) all s t cause =
-    all_loaded gave conf first number count held f w clock mid served [] (Some faults.Memory) all s t cause (refl, omega arith)
-load_ends gave conf first number count held f w clock mid served (Some _) all s t cause = absurd t
+  -- one packet more
+  pub one_loaded : {Clk : Type 0} (gave : Clk → Clk → List ℕ → Type 0)
+      (gave_more : (a b c : Clk) (early late : List ℕ) → gave a b early → gave b c late → gave a c (early ++ late))
+      (first number next : ℕ) (start held after : S) (f g : Figures) (clock mid later : Clk) (moment served : ℕ) (answered : Answered)
+      → next ≡ next_number number → g ≡ with_reply f (answer_behind answered.asks) answered.reply
+      → IsLoaded leads site first number start held f (gave clock mid) served → gave mid later (moment ∷ [])
+      → AnswersNumber leads site held after moment next (Ok answered)
+      → IsLoaded leads site first next start after g (gave clock later) (served + 1)
+  one_loaded gave gave_more first number next start held after f g clock mid later moment served answered step counted s told answers =
+      let turns = s.turns in
+      let t : LoadTurn = record { moment = moment; asked = answered.asks; reply = answered.reply } in
+      let moments = load_moments-push turns t in
+      let Given : List ℕ → Type 0 = gave clock later in
+      record {
+        turns = turns ++ t ∷ [];
+        passed = LoadLeads-push first start held after turns t s.passed (as_next held after moment first number next turns (Ok answered) step s.last answers);
+        told = subst Given (sym moments) (gave_more clock mid later (load_moments turns) (moment ∷ []) s.told told);
+        last = step ∙ ap next_number s.last ∙ sym (ap (λ (ms : List ℕ). number_after first ms) moments ∙ number_after-push first (load_moments turns) moment);
+        figures =
+            counted ∙ ap (λ (h : Figures). with_reply h (answer_behind answered.asks) answered.reply) s.figures ∙ sym (figures_by-push no_figures turns t);
+        count = length-append turns (t ∷ []) ∙ ap (λ (n : ℕ). n + 1) s.count;
+      }
+
+  -- a packet was not answered
+  pub load_stops : {Clk : Type 0} (gave : Clk → Clk → List ℕ → Type 0)
+      (gave_more : (a b c : Clk) (early late : List ℕ) → gave a b early → gave b c late → gave a c (early ++ late))
+      (first number next count : ℕ) (start held after : S) (f : Figures) (taken : Option (List ℕ)) (f0 : ℕ) (clock mid later : Clk) (moment served : ℕ) (fault : RunFault)
+      → next ≡ next_number number → served < count
+      → IsLoaded leads site first number start held f (gave clock mid) served → gave mid later (moment ∷ [])
+      → AnswersNumber leads site held after moment next (Err fault)
+      → LoadOver leads site first count start after (unwritten taken f0) (gave clock later) (Some fault)
+  load_stops gave gave_more first number next count start held after f taken f0 clock mid later moment served (faults.BadPacket packet) step more s told answers = record {
+    turns = s.turns;
+    behind = held;
+    late = moment ∷ [];
+    part = [];
+    passed = s.passed;
+    few = omega (arith, s.count);
+    told = gave_more clock mid later (load_moments s.turns) (moment ∷ []) s.told told;
+    written = Gives-none taken;
+    writes = HasCause-none f0 f0 refl;
+    ending = (omega (arith, s.count), refl, (moment, refl, as_next held after moment first number next s.turns (Err (faults.BadPacket packet)) step s.last answers));
+  }
+  load_stops gave gave_more first number next count start held after f taken f0 clock mid later moment served faults.Memory step more s told answers = record {
+    turns = s.turns;
+    behind = held;
+    late = moment ∷ [];
+    part = [];
+    passed = s.passed;
+    few = omega (arith, s.count);
+    told = gave_more clock mid later (load_moments s.turns) (moment ∷ []) s.told told;
+    written = Gives-none taken;
+    writes = HasCause-none f0 f0 refl;
+    ending = (refl, inr (moment, refl, as_next held after moment first number next s.turns (Err faults.Memory) step s.last answers));
+  }
+  load_stops gave gave_more first number next count start held after f taken f0 clock mid later moment served _ step more s told answers = absurd answers
+
+  -- all packets were answered, and this was written
+  all_loaded : {Clk : Type 0} (gave : Clk → Clk → List ℕ → Type 0)
+      (first number count : ℕ) (start held : S) (f : Figures) (w : Outflow) (clock mid : Clk) (served : ℕ) (part : List ℕ) (fault : Option RunFault)
+      → served ≡ count → (s : IsLoaded leads site first number start held f (gave clock mid) served) → Gives w.before w.now part
+      → HasCause w.faults_before w.faults_now (has_failed_to_write fault) → LoadStops leads site first count s.turns held held w [] part fault
+      → LoadOver leads site first count start held w (gave clock mid) fault
+  all_loaded gave first number count start held f w clock mid served part fault all s written writes ending = record {
+    turns = s.turns;
+    behind = held;
+    late = [];
+    part = part;
+    passed = s.passed;
+    few = omega (arith, s.count);
+    told = rw append-nil s.told;
+    written = written;
+    writes = writes;
+    ending = ending;
+  }
+
+  -- all packets were answered, and their figures were to be written
+  pub load_ends : {Clk : Type 0} (gave : Clk → Clk → List ℕ → Type 0)
+      (first number count : ℕ) (start held : S) (f : Figures) (w : Outflow) (clock mid : Clk) (served : ℕ) (fault : Option RunFault)
+      → served ≡ count → IsLoaded leads site first number start held f (gave clock mid) served → WritesText (figures_text f) w fault
+      → HasCause w.faults_before w.faults_now (has_failed_to_write fault) → LoadOver leads site first count start held w (gave clock mid) fault
+  load_ends gave first number count start held f w clock mid served None all s t cause =
+      all_loaded gave first number count start held f w clock mid served (figures_text f) None all s t cause (s.count ∙ all, refl, ap figures_text s.figures, refl)
+  load_ends gave first number count start held f w clock mid served (Some faults.WriteFault) all s t cause =
+      let text = ap figures_text s.figures in
+      all_loaded gave first number count start held f w clock mid served (take t.1.0 (figures_text f)) (Some faults.WriteFault) all s t.1.2 cause
+      (t.0, s.count ∙ all, refl, (t.1.0, subst (λ (b : List ℕ). t.1.0 < length b) text t.1.1, ap (λ (b : List ℕ). take t.1.0 b) text), refl)
+  load_ends gave first number count start held f w clock mid served (Some faults.Memory) all s t cause =
+      all_loaded gave first number count start held f w clock mid served [] (Some faults.Memory) all s t cause (refl, inl (refl, refl))
+  load_ends gave first number count start held f w clock mid served (Some _) all s t cause = absurd t
+
+-- ---- over a desk that stands for lists
+
+module _ {D : Type 0} (leads : D → D → List Asking → ℕ → Type 0) (stands : D → Lists → Type 0) (on : StandsOn leads stands) (site : Site) where
+  -- what leads on from a state that stands for lists
+  led_on : (a b : D) (lists : Lists) → stands a lists → LedOn (desk_led leads a b) (λ (after : Lists). desk_led list_leads lists after) (λ (after : Lists). stands b after)
+  led_on a b lists held asked writes led = desk_on leads stands on a b lists (of_desk asked) writes held led
+
+  -- the turns are packets of commands over the lists, and the figures those of their replies
+  turns_loaded : (x : ℕ) (a b : D) (lists : Lists) (f : Figures) (turns : List LoadTurn) → stands a lists → LoadLeads leads site x a turns b
+      → (after : Lists) × stands b after × AllByRecursion (IsAccepted site.options) (packets_from x (load_moments turns))
+      × (figures_by f turns ≡ figures_from site.options lists.caches f (packets_from x (load_moments turns)))
+  turns_loaded x a b lists f [] held led = (lists, subst (λ (s : D). stands s lists) (sym led) held, tt, refl)
+  turns_loaded x a b lists f (t ∷ turns) held led =
+      let next = next_number x in
+      let is = led.1 in
+      let followed = is.1 in
+      let first = led_on a led.0 lists held (answered_at t.moment t.asked ++ []) followed.1.0 followed.1.1 in
+      let reply = reply_of site.options lists.caches (packet_for t.moment next) in
+      let told = command_replied lists first.0 t.moment 200 (asked_by site.options (head_for next) (block_for next)) t.asked t.reply (generated_of_cache site.options next) followed.0 first.2 in
+      let packets = packets_from next (load_moments turns) in
+      let more = turns_loaded next led.0 b first.0 (with_reply f (answer_behind t.asked) t.reply) turns first.1 led.2 in (
+        more.0,
+        more.1,
+        (is.0, more.2),
+        more.3
+            ∙ ap (λ (caches : List ListState). figures_from site.options caches (with_reply f (answer_behind t.asked) t.reply) packets) told.caches
+            ∙ ap (λ (answer : Option Answer). figures_from site.options reply.caches (with_reply f answer t.reply) packets) told.answer
+            ∙ ap (λ (text : List ℕ). figures_from site.options reply.caches (with_reply f reply.answer text) packets) told.text,
+      )
+
+  -- where a packet was not answered, the desk stands for lists again
+  unanswered_on : (a b : D) (lists : Lists) (moment x : ℕ) (fault : RunFault) → stands a lists → AnswersNumber leads site a b moment x (Err fault)
+      → (after : Lists) × stands b after
+  unanswered_on a b lists moment x (faults.BadPacket packet) held answers = let o = led_on a b lists held [] 0 answers.1.0 in (o.0, o.1)
+  unanswered_on a b lists moment x faults.Memory held (inl nothing) = let o = led_on a b lists held [] 0 nothing.0 in (o.0, o.1)
+  unanswered_on a b lists moment x faults.Memory held (inr stopped) =
+      let o = stops_on (desk_led leads a b) (λ (after : Lists). desk_led list_leads lists after) (λ (after : Lists). stands b after) (led_on a b lists held) unbounded unbounded moment
+      (course_of_site site (packet_for moment x)) stopped.0 chains.Memory stopped.1 in
+      (o.0, o.1)
+  unanswered_on a b lists moment x _ held answers = absurd answers
+
+  -- the end of a load
+  module _ (first count : ℕ) (start : List ListState) (turns : List LoadTurn) (behind last : D) (w : Outflow) (late part : List ℕ)
+      (empty : start ≡ empty_caches site.options.caches)
+      (figures : figures_by no_figures turns ≡ figures_from site.options start no_figures (packets_from first (load_moments turns))) where
+    -- the text of figures
+    text_is : figures_text (figures_by no_figures turns) ≡ load_text site.options first (load_moments turns)
+    text_is =
+        ap figures_text (figures
+        ∙ ap (λ (caches : List ListState). figures_from site.options caches no_figures (packets_from first (load_moments turns))) empty)
+
+    ends_loaded : (fault : Option RunFault) → LoadStops leads site first count turns behind last w late part fault
+        → LoadEndsBy site.options (record { first = first; count = count; snk = w; moments = load_moments turns; late = late; part = part }) fault
+    ends_loaded None e = (length-load_moments turns ∙ e.0, e.1, e.2 ∙ text_is)
+    ends_loaded (Some faults.WriteFault) e = (
+      e.0,
+      length-load_moments turns ∙ e.1,
+      e.2,
+      (e.3.0, subst (λ (b : List ℕ). e.3.0 < length b) text_is e.3.1, e.3.2 ∙ ap (λ (b : List ℕ). take e.3.0 b) text_is),
+    )
+    ends_loaded (Some (faults.BadPacket packet)) e =
+        let moment = e.2.0 in (
+          omega (arith, length-load_moments turns, e.0),
+          e.1,
+          (
+            moment,
+            packet_for moment (next_number (number_after first (load_moments turns))),
+            e.2.1,
+            ap (λ (behind : List ℕ). packets_from first (load_moments turns ++ behind)) e.2.1 ∙ packets_from-push first (load_moments turns) moment,
+            e.2.2.0,
+          ),
+        )
+    ends_loaded (Some faults.Memory) (part, inl done) = (part, omega (arith, ap length done.0))
+    ends_loaded (Some faults.Memory) (part, inr (moment, one, answers)) = (part, omega (arith, ap length one))
+    ends_loaded (Some _) e = absurd e
+
+    last_stands : (lists : Lists) (fault : Option RunFault) → stands behind lists → LoadStops leads site first count turns behind last w late part fault
+        → (after : Lists) × stands last after
+    last_stands lists None held e = (lists, subst (λ (s : D). stands s lists) (sym e.3) held)
+    last_stands lists (Some faults.WriteFault) held e = (lists, subst (λ (s : D). stands s lists) (sym e.4) held)
+    last_stands lists (Some (faults.BadPacket packet)) held e =
+        unanswered_on behind last lists e.2.0 (next_number (number_after first (load_moments turns))) (faults.BadPacket packet) held e.2.2
+    last_stands lists (Some faults.Memory) held (none, inl done) = (lists, subst (λ (s : D). stands s lists) (sym done.1) held)
+    last_stands lists (Some faults.Memory) held (none, inr (moment, one, answers)) =
+        unanswered_on behind last lists moment (next_number (number_after first (load_moments turns))) faults.Memory held answers
+    last_stands lists (Some _) held e = absurd e
+
+  -- a whole load over a desk that stands for empty caches
+  pub load_on : (first count : ℕ) (a b : D) (lists : Lists) (w : Outflow) (gave : List ℕ → Type 0) (fault : Option RunFault) → stands a lists
+      → lists.caches ≡ empty_caches site.options.caches → LoadOver leads site first count a b w gave fault
+      → (after : Lists) × stands b after × LoadRun site.options first count w gave fault
+  load_on first count a b lists w gave fault held empty run =
+      let turns = run.turns in
+      let loaded = turns_loaded first a run.behind lists no_figures turns held run.passed in
+      let last = last_stands first count lists.caches turns run.behind b w run.late run.part empty loaded.3 loaded.0 fault loaded.1 run.ending in (
+        last.0,
+        last.1,
+        record {
+          moments = load_moments turns;
+          late = run.late;
+          part = run.part;
+          answered = loaded.2;
+          few = omega (arith, length-load_moments turns, run.few);
+          told = run.told;
+          written = run.written;
+          writes = run.writes;
+          ending = ends_loaded first count lists.caches turns run.behind b w run.late run.part empty loaded.3 fault run.ending;
+        },
+      )

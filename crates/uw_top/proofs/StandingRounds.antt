@@ -26,7 +26,7 @@ over_lists f lists after =
 
 module _ {D : Type 0} (leads : D → D → List Asking → ℕ → Type 0) (stands : D → Lists → Type 0) (on : StandsOn leads stands) where
   -- asks of a desk
-  desk_on : (a b : D) (lists : Lists) (asked : List Asking) (writes : ℕ) → stands a lists → leads a b asked writes
+  pub desk_on : (a b : D) (lists : Lists) (asked : List Asking) (writes : ℕ) → stands a lists → leads a b asked writes
       → (after : Lists) × stands b after × list_leads lists after asked writes
   desk_on a b lists asked writes held led = let o = on a b asked writes lists led held in (o.0, o.2, o.1)
 

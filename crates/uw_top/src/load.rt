@@ -1,10 +1,10 @@
 // The command `load`: packets that a generator makes, and the figures of their replies.
-ghost use Rattle.std.specs.Prelude.{◌≡◌, ◌<◌, ◌≤◌, ◌^◌, ◌++◌, length, option_copied, IfOk, OnOk};
+ghost use Rattle.std.specs.Prelude.{◌≡◌, ◌<◌, ◌≤◌, ◌^◌, ◌++◌, length, option_copied, true, IfOk, OnOk};
 ghost use Rattle.std.specs.Fmt.{decimal};
 ghost use Rattle.uw_outside.specs.Faults.{HasCause};
 ghost use Rattle.uw_outside.specs.Streams.{outflow};
 ghost use Rattle.uw_model.specs.Caches.{empty_caches};
-ghost use Rattle.uw_model.specs.Lists.{parts_of};
+ghost use Rattle.uw_model.specs.Lists.{Lists};
 ghost use Rattle.uw_rules.specs.PartNumbers.{AskPartsBelow};
 ghost use Rattle.uw_rules.specs.Compiled.{rules_of};
 ghost use Rattle.uw_chain.specs.KeptSearches.{FitTable};
@@ -13,7 +13,7 @@ ghost use Rattle.uw_conf.specs.Sound.{ArePartsOfSite};
 ghost use Rattle.uw_session.specs.Exchange.{HasParts, IsSiteOf, Site};
 ghost use Rattle.uw_top.specs.Load.{LoadRun, block_for, command_for, figure_line, figures_text, head_for, next_number, no_figures, packet_for, variables_for, with_reply};
 ghost use Rattle.uw_top.specs.Pipe.{has_failed_to_write};
-ghost use Rattle.uw_top.specs.LoadSteps.{AnswersNumber, AreCounted, CanCount, WritesText, answer_behind};
+ghost use Rattle.uw_top.specs.LoadSteps.{AnswersNumber, AreCounted, CanCount, LoadOver, WritesText, answer_behind, unanswered_by};
 
 use itoa::Buffer;
 use std::alloc::Global;
@@ -22,7 +22,7 @@ use uw_chain::Searches;
 use uw_conf::Conf;
 use uw_ends::{BadPacket, RunFault};
 use uw_keeper::MemKeeper;
-use uw_model::{Answer, AskAnswer, ListDesk};
+use uw_model::{Answer, AskAnswer, Desk, ListDesk, OwnDesk};
 use uw_outside::{Clock, Immortal, Sink, put_all};
 use uw_packet::{Header, Packet, write_vars};
 use uw_session::{Answered, ServeFault, answer_packet};
@@ -104,22 +104,23 @@ fn packet_for(alloc: Global, x: u64) -> Result<Packet, Memory>
 }
 
 // Answers the packet that a number makes.
-fn answer_number<'c>(
+fn answer_number<'c, D: Desk>(
     alloc: Global,
     searches: &mut Searches<'c>,
     conf: &'c Conf,
-    desk: &mut ListDesk,
+    desk: &mut D,
     x: u64,
     moment: u64,
 ) -> Result<Answered, RunFault>
     requires number { x < 2 ^ 31 }
     requires few { length conf.now.caches < 2 ^ 32 }
-    requires enough { HasParts (parts_of desk.old) conf.now }
+    requires enough { HasParts (D.parts desk.old) conf.now }
     requires fits { FitTable conf.now.routes searches.old }
-    requires known { AskPartsBelow (parts_of desk.old) (rules_of conf.now.routes) }
-    ensures answer { (site : Site) → IsSiteOf conf.now site → AnswersNumber site.options desk.old.caches desk.new.caches (packet_for moment x) result }
+    requires known { AskPartsBelow (D.parts desk.old) (rules_of conf.now.routes) }
+    ensures answer { (site : Site) → IsSiteOf conf.now site → AnswersNumber D.leads site desk.old desk.new moment x result }
     ensures fits { FitTable conf.now.routes searches.new }
-    ensures parts { parts_of desk.new ≡ parts_of desk.old }
+    ensures parts { D.parts desk.new ≡ D.parts desk.old }
+    ensures settled { D.settled desk.old ≡ true → D.settled desk.new ≡ true }
 {
     let packet = packet_for(alloc, x)?;
     let size = u32::from(packet.head.size);
@@ -132,9 +133,18 @@ fn answer_number<'c>(
     let keep = &mut MemKeeper::new(Vec::new(alloc), Vec::new(alloc));
     match answer_packet(alloc, searches, conf, moment, &packet, life, desk, keep) {
         Ok(answered) => Ok(answered),
-        Err(ServeFault::BadBlock { at }) => Err(RunFault::BadPacket(BadPacket::BadBlock { at })),
-        // An immortal worker does not die, so what is left is want of memory.
-        Err(_) => Err(RunFault::Memory),
+        Err(fault) => Err(unanswered(fault)),
+    }
+}
+
+// What the fault of a packet means for a load. An immortal worker does not die, so but for a block out of its grammar it
+// is want of memory.
+fn unanswered(fault: ServeFault) -> RunFault
+    ensures { result ≡ unanswered_by fault }
+{
+    match fault {
+        ServeFault::BadBlock { at } => RunFault::BadPacket(BadPacket::BadBlock { at }),
+        _ => RunFault::Memory,
     }
 }
 
@@ -206,9 +216,50 @@ fn put_line(text: &mut Bytes, name: &[u8], number: u128) -> Result<(), Memory>
     text.push(b'\n')
 }
 
-/// Answers `count` packets that a generator makes from its first number, over empty caches, and writes seven lines of
-/// figures, by one write where the sink takes it whole. The clock is asked once for each packet.
-pub fn load<K: Sink, C: Clock>(
+/// Answers `count` packets that a generator makes from its first number, and writes seven lines of figures, by one write
+/// where the sink takes it whole. The clock is asked once for each packet.
+pub fn load<'c, K: Sink, C: Clock, D: OwnDesk>(
+    alloc: Global,
+    searches: &mut Searches<'c>,
+    conf: &'c Conf,
+    desk: &mut D,
+    first: u64,
+    count: u64,
+    snk: &mut K,
+    clock: &mut C,
+) -> Option<RunFault>
+    requires few { length conf.now.caches < 2 ^ 32 }
+    requires enough { HasParts (D.parts desk.old) conf.now }
+    requires fits { FitTable conf.now.routes searches.old }
+    requires known { AskPartsBelow (D.parts desk.old) (rules_of conf.now.routes) }
+    requires first { first < 2 ^ 31 }
+    // By the desk's own relation; and a load of the command, where the desk stood for empty caches.
+    ensures runs { (site : Site) → IsSiteOf conf.now site → LoadOver D.leads site first count desk.old desk.new
+        (outflow K.taken K.faults snk.old snk.new)
+        (C.gave clock.old clock.new) result }
+    ensures stands { (site : Site) (lists : Lists) → IsSiteOf conf.now site → D.stands desk.old lists → lists.caches ≡ empty_caches site.options.caches
+        → (after : Lists) × D.stands desk.new after × LoadRun site.options first count
+        (outflow K.taken K.faults snk.old snk.new)
+        (C.gave clock.old clock.new) result }
+    ensures fits { FitTable conf.now.routes searches.new }
+    ensures parts { D.parts desk.new ≡ D.parts desk.old }
+    ensures settled { D.settled desk.old ≡ true → D.settled desk.new ≡ true }
+{
+    let mut figures = Figures::new();
+    let mut x = first;
+    for served in 0..count {
+        x = next_number(x);
+        let moment = clock.now();
+        match answer_number(alloc, searches, conf, desk, x, moment) {
+            Ok(answered) => figures.count(&answered),
+            Err(fault) => return Some(fault),
+        }
+    }
+    write_figures(alloc, &figures, snk)
+}
+
+/// The command `load`, over a configuration: packets are answered over empty caches.
+pub fn loaded<K: Sink, C: Clock>(
     alloc: Global,
     conf: Conf,
     first: u64,
@@ -231,7 +282,7 @@ pub fn load<K: Sink, C: Clock>(
         Ok(searches) => searches,
         Err(_) => return Some(RunFault::Memory),
     };
-    load_with(
+    load(
         alloc,
         &mut searches,
         &conf,
@@ -241,40 +292,6 @@ pub fn load<K: Sink, C: Clock>(
         snk,
         clock,
     )
-}
-
-// The same, by searches and caches that are made.
-fn load_with<'c, K: Sink, C: Clock>(
-    alloc: Global,
-    searches: &mut Searches<'c>,
-    conf: &'c Conf,
-    desk: &mut ListDesk,
-    first: u64,
-    count: u64,
-    snk: &mut K,
-    clock: &mut C,
-) -> Option<RunFault>
-    requires few { length conf.now.caches < 2 ^ 32 }
-    requires caches { desk.old.caches ≡ empty_caches conf.now.caches }
-    requires parts { parts_of desk.old ≡ parts_in conf.now }
-    requires fits { FitTable conf.now.routes searches.old }
-    requires known { AskPartsBelow (parts_in conf.now) (rules_of conf.now.routes) }
-    requires first { first < 2 ^ 31 }
-    ensures { (site : Site) → IsSiteOf conf.now site → LoadRun site.options first count
-        (outflow K.taken K.faults snk.old snk.new)
-        (C.gave clock.old clock.new) result }
-{
-    let mut figures = Figures::new();
-    let mut x = first;
-    for served in 0..count {
-        x = next_number(x);
-        let moment = clock.now();
-        match answer_number(alloc, searches, conf, desk, x, moment) {
-            Ok(answered) => figures.count(&answered),
-            Err(fault) => return Some(fault),
-        }
-    }
-    write_figures(alloc, &figures, snk)
 }
 
 // Writes the lines of figures.

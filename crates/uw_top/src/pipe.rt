@@ -1,6 +1,6 @@
 // The machine of `pipe`.
-ghost use Rattle.std.specs.Prelude.{◌≡◌, ◌<◌, ◌^◌, [], length, true, Some};
-ghost use Rattle.uw_outside.specs.Faults.{HasCause};
+ghost use Rattle.std.specs.Prelude.{◌≡◌, ◌<◌, ◌≤◌, ◌^◌, [], length, true, Some};
+ghost use Rattle.uw_outside.specs.Faults.{HasCause, Rose};
 ghost use Rattle.uw_outside.specs.Streams.{inflow, outflow};
 ghost use Rattle.uw_keeper.specs.Keeping.{keeping};
 ghost use Rattle.uw_rules.specs.PartNumbers.{AskPartsBelow};
@@ -99,6 +99,8 @@ fn take_turn<'c, S: Source, K: Sink, C: Clock, D: Desk, P: Keeper>(
         (C.gave clock.old clock.new) result }
     ensures fits { FitTable conf.now.routes searches.new }
     ensures parts { D.parts desk.new ≡ D.parts desk.old }
+    ensures settled { D.settled desk.old ≡ true → (Rose life.old.deaths life.new.deaths → ⊥) → D.settled desk.new ≡ true }
+    ensures deaths { life.old.deaths ≤ life.new.deaths }
     ensures alive { life.new.alive ≡ true }
     ensures reads { HasCause (S.faults src.old) (S.faults src.new) (has_failed_to_read (fault_of_turn result)) }
     ensures writes { HasCause (K.faults snk.old) (K.faults snk.new) (has_failed_to_write (fault_of_turn result)) }
@@ -169,6 +171,8 @@ fn turn<'c, S: Source, K: Sink, C: Clock, D: Desk, P: Keeper>(
         (C.gave clock.old clock.new) result }
     ensures fits { FitTable conf.now.routes searches.new }
     ensures parts { D.parts desk.new ≡ D.parts desk.old }
+    ensures settled { D.settled desk.old ≡ true → (Rose life.old.deaths life.new.deaths → ⊥) → D.settled desk.new ≡ true }
+    ensures deaths { life.old.deaths ≤ life.new.deaths }
     ensures alive { life.new.alive ≡ true }
     ensures reads { HasCause (S.faults src.old) (S.faults src.new) (has_failed_to_read (fault_of_turn result)) }
     ensures writes { HasCause (K.faults snk.old) (K.faults snk.new) (has_failed_to_write (fault_of_turn result)) }
@@ -230,6 +234,7 @@ pub fn serve_packets<'c, S: Source, K: Sink, C: Clock, D: OwnDesk, P: Keeper>(
         (C.gave clock.old clock.new) briefs.new.items result) × (told.turns ≡ run.turns) × (told.still ≡ run.still))) }
     ensures fits { FitTable conf.now.routes searches.new }
     ensures parts { D.parts desk.new ≡ D.parts desk.old }
+    ensures settled { D.settled desk.old ≡ true → (Rose life.old.deaths life.new.deaths → ⊥) → D.settled desk.new ≡ true }
     ensures alive { life.new.alive ≡ true }
 {
     for served in 0..MOST_PACKETS {

@@ -19,7 +19,7 @@ ghost use Rattle.uw_top.specs.Spool.{SpoolRun};
 ghost use Rattle.uw_top.specs.Run.{Does, Runs, IsSaid, IsSaidWithACache};
 
 use crate::configuration::{configuration, configuration_with_a_cache};
-use crate::load::load;
+use crate::load::loaded;
 use crate::pipe::serve_packets;
 use crate::spool::spooled;
 use std::alloc::Global;
@@ -178,7 +178,7 @@ fn load_over<F: Source, M: Patterns, K: Sink, C: Clock>(
 {
     match configuration_with_a_cache(alloc, conf, make) {
         Ok(conf) => {
-            let fault = load(alloc, conf, first, count, snk, clock);
+            let fault = loaded(alloc, conf, first, count, snk, clock);
             RunEnd::new(fault, BriefList::new(alloc))
         }
         Err(fault) => refused(alloc, fault),

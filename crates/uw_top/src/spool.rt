@@ -1,5 +1,5 @@
 // The rounds of the command `spool`.
-ghost use Rattle.std.specs.Prelude.{◌≡◌, ◌<◌, ◌++◌, ℕ, Some, Ok, Err, IfOk, OnOk};
+ghost use Rattle.std.specs.Prelude.{◌≡◌, ◌<◌, ◌++◌, ℕ, true, Some, Ok, Err, IfOk, OnOk};
 ghost use Rattle.uw_outside.specs.Faults.{HasCause};
 ghost use Rattle.uw_outside.specs.Streams.{outflow};
 ghost use Rattle.uw_keeper.specs.Keeping.{keeping};
@@ -168,6 +168,7 @@ fn run_round<'c, K: Sink, D: Desk, P: Keeper>(
         (outflow K.taken K.faults snk.old snk.new) result }
     ensures fits { FitTable conf.now.tasks searches.new }
     ensures parts { D.parts desk.new ≡ D.parts desk.old }
+    ensures settled { D.settled desk.old ≡ true → D.settled desk.new ≡ true }
     ensures cause { HasCause (K.faults snk.old) (K.faults snk.new) (has_failed_to_write result) }
 {
     let life = &mut Immortal::new();
@@ -209,6 +210,7 @@ pub fn spool<'c, K: Sink, D: OwnDesk, P: Keeper>(
         (keeping P.rows P.append_faults P.other_faults keep.old) (keeping P.rows P.append_faults P.other_faults keep.new)
         (outflow K.taken K.faults snk.old snk.new) result }
     ensures fits { FitTable conf.now.tasks searches.new }
+    ensures settled { D.settled desk.old ≡ true → D.settled desk.new ≡ true }
 {
     for spooler in 0..conf.spoolers {
         match run_round(alloc, searches, conf, now, spooler, snk, desk, keep) {

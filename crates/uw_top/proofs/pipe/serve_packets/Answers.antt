@@ -4,6 +4,7 @@ use Rattle.uw_outside.proofs.Lives.{Spends-none}
 use Rattle.uw_chain.proofs.SpoolLemmas.{kept_none}
 use Rattle.uw_top.specs.Pipe.{both_lead}
 use Rattle.uw_top.proofs.Machine.{none_yet, one_more, run_ends, run_is_full}
+use Rattle.uw_top.proofs.Settling.{not_before, not_since}
 use Rattle.uw_top.proofs.Standing.{run_on}
 use Rattle.uw_top.proofs.pipe.serve_packets.Goals as goal
 
@@ -27,6 +28,18 @@ returns-in-Ok-false-clause-parts g c = c.in-Ok-false.ensures.parts ∙ c.loop-se
 pub returns-in-Err-clause-parts : goal.returns-in-Err-clause-parts
 returns-in-Err-clause-parts g c = c.in-Err.ensures.parts ∙ c.loop-served.invariant.parts
 
+pub returns-in-Ok-false-clause-settled : goal.returns-in-Ok-false-clause-settled
+returns-in-Ok-false-clause-settled g c = λ settled none.
+    let i = c.loop-served.invariant in
+    let e = c.in-Ok-false.ensures in
+    e.settled (i.settled settled (not_before _ _ _ e.deaths none)) (not_since _ _ _ i.deaths none)
+
+pub returns-in-Err-clause-settled : goal.returns-in-Err-clause-settled
+returns-in-Err-clause-settled g c = λ settled none.
+    let i = c.loop-served.invariant in
+    let e = c.in-Err.ensures in
+    e.settled (i.settled settled (not_before _ _ _ e.deaths none)) (not_since _ _ _ i.deaths none)
+
 pub loop-served-preserved : goal.loop-served-preserved
 loop-served-preserved g c =
     let i = c.loop-served.invariant in
@@ -36,6 +49,8 @@ loop-served-preserved g c =
       fits = e.fits;
       alive = e.alive;
       parts = e.parts ∙ i.parts;
+      settled = λ settled none. e.settled (i.settled settled (not_before _ _ _ e.deaths none)) (not_since _ _ _ i.deaths none);
+      deaths = omega (arith, i.deaths, e.deaths);
       src = e.reads.kept refl ∙ i.src;
       snk = e.writes.kept refl ∙ i.snk;
     }

@@ -1,4 +1,5 @@
-use Rattle.std.proofs.Common.{◌≡◌, Some, true}
+use Rattle.std.proofs.Common.{◌≡◌, ◌≤◌, Some, true}
+use Rattle.uw_outside.specs.Faults.{Rose}
 use Rattle.uw_keeper.specs.Keeping.{keeping}
 use Rattle.uw_chain.specs.KeptSearches.{FitTable}
 use Rattle.uw_session.specs.Exchange.{IsSiteOf, Site}
@@ -17,6 +18,8 @@ invariant-loop-served g l = record {
   fits : FitTable l.fn.conf.routes l.searches;
   alive : l.life.alive ≡ true;
   parts : g.D.Desk.parts l.desk ≡ g.D.Desk.parts l.fn.desk;
+  settled : g.D.Desk.settled l.fn.desk ≡ true → (Rose l.fn.life.deaths l.life.deaths → ⊥) → g.D.Desk.settled l.desk ≡ true;
+  deaths : l.fn.life.deaths ≤ l.life.deaths;
   src : g.S.Source.faults l.src ≡ g.S.Source.faults l.fn.src;
   snk : g.K.Sink.faults l.snk ≡ g.K.Sink.faults l.fn.snk;
 }

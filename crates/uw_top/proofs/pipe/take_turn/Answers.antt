@@ -1,4 +1,5 @@
 use Rattle.std.proofs.Common.{◌≡◌, ◌∙◌, sym, ap, subst, List, ℕ, ◌∷◌, [], drop}
+use Rattle.uw_outside.specs.Faults.{Rose}
 use Rattle.uw_outside.specs.Lives.{LifeLeft}
 use Rattle.std.specs.Prelude.{Option, None, Some}
 use Rattle.uw_outside.specs.Streams.{inflow, outflow}
@@ -8,6 +9,7 @@ use Rattle.uw_ends.specs.declared.ends.RunFault.{RunFault}
 use Rattle.uw_top.specs.declared.pipe.Stop.{Stop}
 use Rattle.uw_top.specs.Pipe.{both_lead}
 use Rattle.uw_top.specs.PipeSteps.{IsLast}
+use Rattle.uw_top.proofs.Settling.{not_dead}
 use Rattle.uw_top.proofs.Stopping.{DeathTurn, LastBy, death_cut, death_goes, death_wrote_nothing, died, no_memory, not_served, served, told_since}
 use Rattle.uw_top.proofs.pipe.take_turn.Goals as goal
 
@@ -73,3 +75,18 @@ returns-in-None-clause-turn g c = λ site is.
     death_goes led site before (Some c.renew.new.self.allowances) src snk c.now-moment.result gave c.in-Dead.whole c.args.briefs.now.items c.push_reserved-in-None.new.self.items c.now-moment.ensures renewed
     (told_since (g.K.Sink.taken c.args.snk.now) (g.K.Sink.taken c.serve_with-served.new.snk) (g.K.Sink.taken c.tell_death.new.snk) (g.K.Sink.faults c.args.snk.now) (g.K.Sink.faults c.serve_with-served.new.snk) (g.K.Sink.faults c.tell_death.new.snk) c.in-Dead.whole None d.0 kept c.in-None.ensures.tells)
     (rw c.reserve.ensures.items at c.push_reserved-in-None.ensures.items)
+
+pub returns-in-Ok-clause-settled : goal.returns-in-Ok-clause-settled
+returns-in-Ok-clause-settled g c = λ settled none. c.in-Ok.ensures.settled settled (not_dead _ _ _ c.in-Ok.ensures.cause none)
+
+pub returns-in-ByFault-clause-settled : goal.returns-in-ByFault-clause-settled
+returns-in-ByFault-clause-settled g c = λ settled none. c.in-Err.ensures.settled settled (not_dead _ _ _ c.in-Err.ensures.cause none)
+
+pub returns-in-AtEnd-clause-settled : goal.returns-in-AtEnd-clause-settled
+returns-in-AtEnd-clause-settled g c = λ settled none. c.in-Err.ensures.settled settled (not_dead _ _ _ c.in-Err.ensures.cause none)
+
+pub returns-clause-settled : goal.returns-clause-settled
+returns-clause-settled g c = λ settled none. c.in-Err.ensures.settled settled (not_dead _ _ _ c.in-Err.ensures.cause (subst (λ (deaths : ℕ). Rose c.args.life.now.deaths deaths → ⊥) (ap (λ (life : LifeLeft). life.deaths) c.renew.ensures) none))
+
+pub returns-in-None-clause-settled : goal.returns-in-None-clause-settled
+returns-in-None-clause-settled g c = λ settled none. c.in-Err.ensures.settled settled (not_dead _ _ _ c.in-Err.ensures.cause (subst (λ (deaths : ℕ). Rose c.args.life.now.deaths deaths → ⊥) (ap (λ (life : LifeLeft). life.deaths) c.renew.ensures) none))

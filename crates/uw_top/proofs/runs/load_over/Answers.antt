@@ -9,8 +9,8 @@ pub returns-in-Ok-clause-loads : goal.returns-in-Ok-clause-loads
 returns-in-Ok-clause-loads g c =
     let before = g.M.Patterns.faults c.args.make.now in
     let after = g.M.Patterns.faults c.configuration_with_a_cache.new.make in
-    let snk = outflow g.K.Sink.taken g.K.Sink.faults c.args.snk.now c.load-fault.new.snk in
-    let gave = g.C.Clock.gave c.args.clock.now c.load-fault.new.clock in
+    let snk = outflow g.K.Sink.taken g.K.Sink.faults c.args.snk.now c.loaded-fault.new.snk in
+    let gave = g.C.Clock.gave c.args.clock.now c.loaded-fault.new.clock in
     let Ran : Site → Type 0 = λ site. LoadRun site.options c.args.first c.args.count snk gave c.new-in-Ok.result.fault in
     runs_over before after IsSaidWithACache _ _ _ Ran c.in-Ok.conf c.in-Ok.ensures.gives
-    (λ text said. rw c.new-in-Ok.ensures (c.load-fault.ensures _ (site_is before after text c.in-Ok.conf said.0)))
+    (λ text said. rw c.new-in-Ok.ensures (c.loaded-fault.ensures _ (site_is before after text c.in-Ok.conf said.0)))

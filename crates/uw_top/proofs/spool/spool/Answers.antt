@@ -13,6 +13,9 @@ pub returns-in-Some-clause-stands : goal.returns-in-Some-clause-stands
 returns-in-Some-clause-stands g c = λ site lists is held.
     rounds_run_on g.D.Desk.leads g.D.OwnDesk.stands g.met.D.OwnDesk.stands_on site c.args.now _ _ lists _ _ _ _ held (returns-in-Some-clause-spools g c site is)
 
+pub returns-in-Some-clause-settled : goal.returns-in-Some-clause-settled
+returns-in-Some-clause-settled g c = λ settled. c.in-Some.ensures.settled (c.loop-spooler.invariant.settled settled)
+
 pub loop-spooler-preserved : goal.loop-spooler-preserved
 loop-spooler-preserved g c =
     let i = c.loop-spooler.invariant in
@@ -21,6 +24,7 @@ loop-spooler-preserved g c =
       so_far = λ site is. one_round_more g.D.Desk.leads site c.args.now _ _ _ _ _ _ _ _ _ 0 0 c.loop-spooler.spooler (i.so_far site is) (e.runs site is);
       fits = e.fits;
       parts = e.parts ∙ i.parts;
+      settled = λ settled. e.settled (i.settled settled);
       kept = e.cause.kept refl ∙ i.kept;
     }
 

@@ -1,4 +1,4 @@
-use Rattle.std.proofs.Common.{◌≡◌}
+use Rattle.std.proofs.Common.{◌≡◌, true}
 use Rattle.uw_keeper.specs.Keeping.{keeping}
 use Rattle.uw_chain.specs.KeptSearches.{FitTable}
 use Rattle.uw_session.specs.Exchange.{IsSiteOf, Site}
@@ -13,5 +13,6 @@ invariant-loop-spooler g l = record {
       (g.K.Sink.taken l.fn.snk) (g.K.Sink.taken l.snk) l.spooler;
   fits : FitTable l.fn.conf.tasks l.searches;
   parts : g.D.Desk.parts l.desk ≡ g.D.Desk.parts l.fn.desk;
+  settled : g.D.Desk.settled l.fn.desk ≡ true → g.D.Desk.settled l.desk ≡ true;
   kept : g.K.Sink.faults l.snk ≡ g.K.Sink.faults l.fn.snk;
 }
