@@ -1,5 +1,6 @@
 -- What is told of the refused lines of a configuration (own rule).
 use Rattle.std.specs.Prelude.{◌≡◌, ◌⊎◌, ℕ, ◌-◌, ◌==◌, ◌<◌, ◌≤◌, if◌then◌else◌, List, [], ◌∷◌, ◌++◌, length, Result, Ok, Err}
+use Rattle.std.specs.List.{AllByRecursion}
 use Rattle.uw_base.specs.declared.bytes.Memory.{Memory}
 use Rattle.uw_conf.specs.declared.conf.Conf.{Conf}
 use Rattle.uw_conf.specs.declared.conf.ConfError.TheVariants as errors
@@ -28,18 +29,23 @@ LedBy (fault ∷ faults) text before left after =
     (middle : ℕ) × ReadsConf text before middle (Err (errors.Refused fault))
     × LedBy faults (without_line fault.line text) middle left after
 
--- the last of the lines is line 0, which stands for the whole text
+-- each of the faults is that of a line, and none of the whole text
+abbrev pub HaveLines : List ConfFault → Type 0
+HaveLines faults = AllByRecursion (λ (fault : ConfFault). 0 < fault.line) faults
+
+-- the last of the faults, and it alone, is that of line 0, which stands for the whole text
 pub record EndsInWhole (faults : List ConfFault) : Type 0 where
   pub front : List ConfFault
   pub last : ConfFault
   pub parts : faults ≡ front ++ last ∷ []
+  pub lines : HaveLines front
   pub whole : last.line ≡ 0
 
 -- why no more lines are told: so many are; or the whole text is refused; or a reading takes what is left
 abbrev pub EndsTelling : List ConfFault → List ℕ → ℕ → ℕ → Type 0
 EndsTelling faults left middle after =
-    ((length faults ≡ most_told) × (after ≡ middle))
-    ⊎ ((EndsInWhole faults × (after ≡ middle)) ⊎ ((conf : Conf) × ReadsConf left middle after (Ok conf)))
+    ((length faults ≡ most_told) × HaveLines faults × (after ≡ middle))
+    ⊎ ((EndsInWhole faults × (after ≡ middle)) ⊎ (HaveLines faults × ((conf : Conf) × ReadsConf left middle after (Ok conf))))
 
 -- the lines that are told of a text that is not taken
 pub record TellsRefused (text : List ℕ) (before after : ℕ) (faults : List ConfFault) : Type 0 where
@@ -60,9 +66,3 @@ Checks text before after (Err memory) = Unit {0}
 abbrev pub IsSoundAnswer : Checked → Type 0
 IsSoundAnswer (answers.Taken conf) = ArePartsOfSite conf.caches conf.areas
 IsSoundAnswer (answers.Refused faults) = Unit {0}
-
--- the status of a report: 0 where the text is taken, and 2 where refused lines of it are told
-abbrev pub ReportsBy : List ℕ → ℕ → ℕ → ℕ → Type 0
-ReportsBy text before after status =
-    ((status ≡ 0) × ((conf : Conf) × ReadsConf text before after (Ok conf)))
-    ⊎ ((status ≡ 2) × ((faults : List ConfFault) × TellsRefused text before after faults))

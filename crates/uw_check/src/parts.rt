@@ -1,6 +1,9 @@
 // Lines of a configuration and their parts, and texts that a report is put together from.
+ghost use Rattle.std.specs.Prelude.{◌≡◌, ◌++◌, OnOk};
+ghost use Rattle.uw_check.specs.Reports.{count_text, goes_on, shown, shown_byte, shown_part};
+
 use uw_base::texts::{cut, trim_blanks};
-use uw_base::{Bytes, Memory};
+use uw_base::{Bytes, Memory, put_decimal};
 
 /// The most bytes that a report shows of one text.
 const MOST_SHOWN: usize = 60;
@@ -105,18 +108,54 @@ pub fn put(out: &mut Bytes, texts: &[&[u8]]) -> Result<(), Memory> {
     Ok(())
 }
 
+/// Puts a number and what it counts: one of them, or another number.
+pub fn put_count(out: &mut Bytes, count: u64, one: &[u8], more: &[u8]) -> Result<(), Memory>
+    ensures { OnOk result (out.new ≡ out.old ++ count_text count one.now more.now) }
+{
+    put_decimal(out, count)?;
+    out.append(b" ")?;
+    out.append(if count == 1 { one } else { more })
+}
+
 /// Puts a text between backquotes: 60 bytes of it at most, up to the end of a character, and a `?` for each byte that
 /// would move the cursor.
-pub fn put_shown(out: &mut Bytes, text: &[u8]) -> Result<(), Memory> {
-    out.push(b'`')?;
-    for (place, byte) in text.iter().enumerate() {
-        let goes_on = *byte >= 0x80 && *byte < 0xC0;
-        if place >= MOST_SHOWN && !goes_on {
-            out.append(b"..")?;
-            break;
+pub fn put_shown(out: &mut Bytes, text: &[u8]) -> Result<(), Memory>
+    ensures { OnOk result (out.new ≡ out.old ++ shown text.now) }
+{
+    out.append(b"`")?;
+    put_part(out, text)?;
+    out.append(b"`")
+}
+
+// Puts as much of a text as is shown.
+fn put_part(out: &mut Bytes, text: &[u8]) -> Result<(), Memory>
+    ensures { OnOk result (out.new ≡ out.old ++ shown_part 60 text.now) }
+{
+    let mut ahead = MOST_SHOWN;
+    for byte in text {
+        if ahead == 0 && !goes_on(*byte) {
+            return out.append(b"..");
         }
-        let is_control = *byte < b' ' || *byte == 0x7F;
-        out.push(if is_control { b'?' } else { *byte })?;
+        out.push(shown_byte(*byte))?;
+        ahead = ahead.saturating_sub(1);
     }
-    out.push(b'`')
+    Ok(())
+}
+
+// A byte as a report shows it.
+fn shown_byte(byte: u8) -> u8
+    ensures { result ≡ shown_byte byte }
+{
+    if byte < b' ' || byte == 0x7F {
+        b'?'
+    } else {
+        byte
+    }
+}
+
+// Whether a byte goes on with a character of UTF-8.
+fn goes_on(byte: u8) -> bool
+    ensures { result ≡ goes_on byte }
+{
+    byte > 0x7F && byte < 0xC0
 }

@@ -1,8 +1,12 @@
 // A sentence for a refused line: what stands there, and what to write in its place.
+ghost use Rattle.std.specs.Prelude.{◌≡◌};
+ghost use Rattle.uw_ends.specs.Ends.{name_of, name_of_rule};
+
 use crate::keys::{put_bad_cache, put_missing_key, put_unknown_key, value_of_key};
 use crate::options::advice_on_option;
 use crate::parts::{Setting, has, has_section_above, line_at, put, put_shown, setting_of};
 use crate::rules::put_rule;
+use std::alloc::Global;
 use uw_base::texts::{is, trim_blanks};
 use uw_base::{Bytes, Memory, put_decimal};
 use uw_conf::{ConfFault, ConfKind};
@@ -61,7 +65,9 @@ const NUMBERS: [NumberOption; 7] = [
 ];
 
 /// The name of the cause of a refusal.
-pub fn cause_name(kind: &ConfKind) -> &'static [u8] {
+pub fn cause_name(kind: &ConfKind) -> &'static [u8]
+    ensures { result.now ≡ name_of kind.now }
+{
     match kind {
         ConfKind::BadLine => b"BadLine",
         ConfKind::UnknownOption => b"UnknownOption",
@@ -73,7 +79,9 @@ pub fn cause_name(kind: &ConfKind) -> &'static [u8] {
     }
 }
 
-fn rule_cause_name(kind: &RuleKind) -> &'static [u8] {
+fn rule_cause_name(kind: &RuleKind) -> &'static [u8]
+    ensures { result.now ≡ name_of_rule kind.now }
+{
     match kind {
         RuleKind::BadRule => b"BadRule",
         RuleKind::BadPattern => b"BadPattern",
@@ -196,8 +204,15 @@ fn put_refused(out: &mut Bytes, kind: &ConfKind, setting: Setting<'_>) -> Result
     }
 }
 
-/// Says why a line of a text is refused, and what to do.
-pub fn put_sentence(out: &mut Bytes, text: &[u8], fault: &ConfFault) -> Result<(), Memory> {
+/// The sentence that says why a line of a text is refused, and what to do.
+pub fn sentence_of(alloc: Global, text: &[u8], fault: &ConfFault) -> Result<Bytes, Memory> {
+    let mut out = Bytes::new(alloc);
+    put_sentence(&mut out, text, fault)?;
+    Ok(out)
+}
+
+// Puts it.
+fn put_sentence(out: &mut Bytes, text: &[u8], fault: &ConfFault) -> Result<(), Memory> {
     let line = trim_blanks(line_at(text, fault.line));
     match fault.kind {
         ConfKind::BadLine => put_bad_line(out, line, has_section_above(text, fault.line)),

@@ -1,14 +1,20 @@
 // What a configuration that is taken has.
-ghost use Rattle.std.specs.List.{AllByRecursion};
+ghost use Rattle.std.specs.Prelude.{◌≡◌, ℕ, ◌++◌, codes, OnOk};
+ghost use Rattle.std.specs.List.{AllByRecursion, flat_map};
+ghost use Rattle.uw_check.specs.Reports.{area_text, areas_listed, cache_text, caches_listed, parts_text, rules_text, site_line, socket_text};
 ghost use Rattle.uw_conf.specs.Sound.{ArePartsOfSite};
 ghost use Rattle.uw_model.specs.AreaOps.{IsAreaSize};
 ghost use Rattle.uw_model.specs.Entries.{IsCacheConf};
+ghost use Rattle.uw_model.specs.declared.conf.CacheConf.{CacheConf};
 
-use crate::parts::{put, put_shown, says_nothing, section_of, setting_of, without_return};
-use uw_base::texts::{is, is_any, trim_blanks};
+use crate::parts::{
+    put, put_count, put_shown, says_nothing, section_of, setting_of, without_return,
+};
+use uw_base::texts::{is, trim_blanks};
 use uw_base::{Bytes, Memory, put_decimal};
-use uw_conf::{Conf, area_words, region_words};
-use uw_model::CacheConf;
+use uw_conf::Conf;
+use uw_model::{CacheConf, area_words, words_of};
+use uw_rules::RuleTable;
 
 /// Options that are taken and have no effect here, those among them that wait for workers.
 const IDLE: [&[u8]; 25] = [
@@ -39,77 +45,138 @@ const IDLE: [&[u8]; 25] = [
     b"socket",
 ];
 
-// Puts a number and what it counts: one of them, or another number.
-fn put_count(out: &mut Bytes, count: u64, one: &[u8], more: &[u8]) -> Result<(), Memory> {
-    put_decimal(out, count)?;
-    put(out, &[b" ", if count == 1 { one } else { more }])
+// Puts a cache, with its items and the bytes of its region.
+fn put_cache(out: &mut Bytes, cache: &CacheConf) -> Result<(), Memory>
+    requires { IsCacheConf cache.now }
+    ensures { OnOk result (out.new ≡ out.old ++ cache_text cache.now) }
+{
+    put_shown(out, cache.name.as_slice())?;
+    out.append(b" ")?;
+    put_count(out, cache.items, b"item", b"items")?;
+    out.append(b" in ")?;
+    put_decimal(out, 8 * words_of(cache))?;
+    out.append(b" bytes")
 }
 
-// Puts the caches, with their items and the bytes of memory of each.
+// Puts each of the caches behind a comma.
+fn put_more_caches(out: &mut Bytes, caches: &[CacheConf]) -> Result<(), Memory>
+    requires { AllByRecursion IsCacheConf caches.now }
+    ensures { OnOk result (out.new ≡ out.old ++ flat_map (λ (more : CacheConf). codes ", " ++ cache_text more) caches.now) }
+{
+    for cache in caches {
+        out.append(b", ")?;
+        put_cache(out, cache)?;
+    }
+    Ok(())
+}
+
+// Puts the caches in brackets.
 fn put_caches(out: &mut Bytes, caches: &[CacheConf]) -> Result<(), Memory>
     requires { AllByRecursion IsCacheConf caches.now }
+    ensures { OnOk result (out.new ≡ out.old ++ caches_listed caches.now) }
 {
-    put_count(out, caches.len() as u64, b"cache", b"caches")?;
-    let mut front: &[u8] = b" (";
-    for cache in caches {
-        out.append(front)?;
-        put_shown(out, cache.name.as_slice())?;
-        out.append(b" ")?;
-        put_count(out, cache.items, b"item", b"items")?;
-        out.append(b" in ")?;
-        put_decimal(out, 8 * region_words(cache))?;
-        out.append(b" bytes")?;
-        front = b", ";
+    match caches {
+        [] => Ok(()),
+        [cache, rest @ ..] => {
+            out.append(b" (")?;
+            put_cache(out, cache)?;
+            put_more_caches(out, rest)?;
+            out.append(b")")
+        }
     }
-    out.append(if caches.is_empty() { b"" } else { b")" })
 }
 
-// Puts the areas, with the bytes of each and those of its memory.
+// Puts an area, with the bytes of its region.
+fn put_area(out: &mut Bytes, size: u64) -> Result<(), Memory>
+    requires { IsAreaSize size }
+    ensures { OnOk result (out.new ≡ out.old ++ area_text size) }
+{
+    put_decimal(out, size)?;
+    out.append(b" in ")?;
+    put_decimal(out, 8 * area_words(size))?;
+    out.append(b" bytes")
+}
+
+// Puts each of the areas behind a comma.
+fn put_more_areas(out: &mut Bytes, areas: &[u64]) -> Result<(), Memory>
+    requires { AllByRecursion IsAreaSize areas.now }
+    ensures { OnOk result (out.new ≡ out.old ++ flat_map (λ (more : ℕ). codes ", " ++ area_text more) areas.now) }
+{
+    for size in areas {
+        out.append(b", ")?;
+        put_area(out, *size)?;
+    }
+    Ok(())
+}
+
+// Puts the areas in brackets.
 fn put_areas(out: &mut Bytes, areas: &[u64]) -> Result<(), Memory>
     requires { AllByRecursion IsAreaSize areas.now }
+    ensures { OnOk result (out.new ≡ out.old ++ areas_listed areas.now) }
 {
-    put_count(out, areas.len() as u64, b"area", b"areas")?;
-    let mut front: &[u8] = b" (";
-    for size in areas {
-        out.append(front)?;
-        put_decimal(out, *size)?;
-        out.append(b" in ")?;
-        put_decimal(out, 8 * area_words(*size))?;
-        out.append(b" bytes")?;
-        front = b", ";
+    match areas {
+        [] => Ok(()),
+        [size, rest @ ..] => {
+            out.append(b" (")?;
+            put_area(out, *size)?;
+            put_more_areas(out, rest)?;
+            out.append(b")")
+        }
     }
-    out.append(if areas.is_empty() { b"" } else { b")" })
+}
+
+// Puts how many caches and areas there are, and each of them.
+fn put_parts(out: &mut Bytes, caches: &[CacheConf], areas: &[u64]) -> Result<(), Memory>
+    requires { ArePartsOfSite caches.now areas.now }
+    ensures { OnOk result (out.new ≡ out.old ++ parts_text caches.now areas.now) }
+{
+    put_count(out, caches.len() as u64, b"cache", b"caches")?;
+    put_caches(out, caches)?;
+    out.append(b", ")?;
+    put_count(out, areas.len() as u64, b"area", b"areas")?;
+    put_areas(out, areas)
+}
+
+// Puts how many rules there are.
+fn put_rules(out: &mut Bytes, routes: &RuleTable, tasks: &RuleTable) -> Result<(), Memory>
+    ensures { OnOk result (out.new ≡ out.old ++ rules_text routes.now tasks.now) }
+{
+    out.append(b", ")?;
+    put_count(
+        out,
+        routes.len() as u64,
+        b"rule of requests",
+        b"rules of requests",
+    )?;
+    out.append(b", ")?;
+    put_count(out, tasks.len() as u64, b"rule of tasks", b"rules of tasks")
+}
+
+// Puts the socket, if there is one.
+fn put_socket(out: &mut Bytes, socket: &[u8]) -> Result<(), Memory>
+    ensures { OnOk result (out.new ≡ out.old ++ socket_text socket.now) }
+{
+    match socket {
+        [] => out.append(b", no socket"),
+        _ => {
+            out.append(b", socket ")?;
+            put_shown(out, socket)
+        }
+    }
 }
 
 /// Puts a line that says what the site has.
 pub fn put_site(out: &mut Bytes, path: &[u8], conf: &Conf) -> Result<(), Memory>
     requires { ArePartsOfSite conf.now.caches conf.now.areas }
+    ensures { OnOk result (out.new ≡ out.old ++ site_line path.now conf.now) }
 {
-    put(out, &[path, b": taken: "])?;
-    put_caches(out, conf.caches.as_slice())?;
-    out.append(b", ")?;
-    put_areas(out, conf.areas.as_slice())?;
-    out.append(b", ")?;
-    put_count(
-        out,
-        conf.routes.len() as u64,
-        b"rule of requests",
-        b"rules of requests",
-    )?;
-    out.append(b", ")?;
-    put_count(
-        out,
-        conf.tasks.len() as u64,
-        b"rule of tasks",
-        b"rules of tasks",
-    )?;
+    out.append(path)?;
+    out.append(b": taken: ")?;
+    put_parts(out, conf.caches.as_slice(), conf.areas.as_slice())?;
+    put_rules(out, &conf.routes, &conf.tasks)?;
     out.append(b", ")?;
     put_count(out, u64::from(conf.workers), b"worker", b"workers")?;
-    if conf.socket.as_slice().is_empty() {
-        return out.append(b", no socket\n");
-    }
-    out.append(b", socket ")?;
-    put_shown(out, conf.socket.as_slice())?;
+    put_socket(out, conf.socket.as_slice())?;
     out.append(b"\n")
 }
 
