@@ -35,27 +35,27 @@ shown text = codes "`" ++ shown_part 60 text ++ codes "`"
 abbrev pub count_text : ℕ → List ℕ → List ℕ → List ℕ
 count_text count one more = decimal count ++ codes " " ++ (if count == 1 then one else more)
 
--- a cache: its name, its items and the bytes of its region
-abbrev pub cache_text : CacheConf → List ℕ
-cache_text cache =
+-- a cache as a report shows it: its name, its items and the bytes of its region
+abbrev pub shown_cache : CacheConf → List ℕ
+shown_cache cache =
     shown cache.name ++ codes " " ++ count_text cache.items (codes "item") (codes "items") ++ codes " in "
     ++ decimal (8 * words_of cache) ++ codes " bytes"
 
--- an area: its bytes, and those of its region
-abbrev pub area_text : ℕ → List ℕ
-area_text size = decimal size ++ codes " in " ++ decimal (8 * area_words size) ++ codes " bytes"
+-- an area as a report shows it: its bytes, and those of its region
+abbrev pub shown_area : ℕ → List ℕ
+shown_area size = decimal size ++ codes " in " ++ decimal (8 * area_words size) ++ codes " bytes"
 
 -- each cache in brackets, parted by commas; nothing where there is none
 abbrev pub caches_listed : List CacheConf → List ℕ
 caches_listed [] = []
 caches_listed (cache ∷ caches) =
-    codes " (" ++ cache_text cache ++ flat_map (λ (more : CacheConf). codes ", " ++ cache_text more) caches ++ codes ")"
+    codes " (" ++ shown_cache cache ++ flat_map (λ (more : CacheConf). codes ", " ++ shown_cache more) caches ++ codes ")"
 
 -- the same of areas
 abbrev pub areas_listed : List ℕ → List ℕ
 areas_listed [] = []
 areas_listed (size ∷ sizes) =
-    codes " (" ++ area_text size ++ flat_map (λ (more : ℕ). codes ", " ++ area_text more) sizes ++ codes ")"
+    codes " (" ++ shown_area size ++ flat_map (λ (more : ℕ). codes ", " ++ shown_area more) sizes ++ codes ")"
 
 -- how many caches and areas there are, and each of them
 abbrev pub parts_text : List CacheConf → List ℕ → List ℕ
@@ -71,8 +71,7 @@ rules_text routes tasks =
 
 -- the socket, if there is one
 abbrev pub socket_text : List ℕ → List ℕ
-socket_text [] = codes ", no socket"
-socket_text (byte ∷ text) = codes ", socket " ++ shown (byte ∷ text)
+socket_text socket = if length socket == 0 then codes ", no socket" else codes ", socket " ++ shown socket
 
 -- the line that says what a site has
 abbrev pub site_line : List ℕ → Conf → List ℕ

@@ -1,11 +1,12 @@
 // What a configuration that is taken has.
-ghost use Rattle.std.specs.Prelude.{◌≡◌, ℕ, ◌++◌, codes, OnOk};
+ghost use Rattle.std.specs.Prelude.{◌≡◌, ℕ, ◌++◌, codes, length, OnOk};
 ghost use Rattle.std.specs.List.{AllByRecursion, flat_map};
-ghost use Rattle.uw_check.specs.Reports.{area_text, areas_listed, cache_text, caches_listed, parts_text, rules_text, site_line, socket_text};
+ghost use Rattle.uw_check.specs.Reports.{shown_area, areas_listed, shown_cache, caches_listed, count_text, parts_text, rules_text, site_line, socket_text};
 ghost use Rattle.uw_conf.specs.Sound.{ArePartsOfSite};
 ghost use Rattle.uw_model.specs.AreaOps.{IsAreaSize};
 ghost use Rattle.uw_model.specs.Entries.{IsCacheConf};
 ghost use Rattle.uw_model.specs.declared.conf.CacheConf.{CacheConf};
+ghost use Rattle.uw_rules.specs.Compiled.{rules_of};
 
 use crate::parts::{
     put, put_count, put_shown, says_nothing, section_of, setting_of, without_return,
@@ -48,7 +49,7 @@ const IDLE: [&[u8]; 25] = [
 // Puts a cache, with its items and the bytes of its region.
 fn put_cache(out: &mut Bytes, cache: &CacheConf) -> Result<(), Memory>
     requires { IsCacheConf cache.now }
-    ensures { OnOk result (out.new ≡ out.old ++ cache_text cache.now) }
+    ensures { OnOk result (out.new ≡ out.old ++ shown_cache cache.now) }
 {
     put_shown(out, cache.name.as_slice())?;
     out.append(b" ")?;
@@ -61,7 +62,7 @@ fn put_cache(out: &mut Bytes, cache: &CacheConf) -> Result<(), Memory>
 // Puts each of the caches behind a comma.
 fn put_more_caches(out: &mut Bytes, caches: &[CacheConf]) -> Result<(), Memory>
     requires { AllByRecursion IsCacheConf caches.now }
-    ensures { OnOk result (out.new ≡ out.old ++ flat_map (λ (more : CacheConf). codes ", " ++ cache_text more) caches.now) }
+    ensures { OnOk result (out.new ≡ out.old ++ flat_map (λ (more : CacheConf). codes ", " ++ shown_cache more) caches.now) }
 {
     for cache in caches {
         out.append(b", ")?;
@@ -89,7 +90,7 @@ fn put_caches(out: &mut Bytes, caches: &[CacheConf]) -> Result<(), Memory>
 // Puts an area, with the bytes of its region.
 fn put_area(out: &mut Bytes, size: u64) -> Result<(), Memory>
     requires { IsAreaSize size }
-    ensures { OnOk result (out.new ≡ out.old ++ area_text size) }
+    ensures { OnOk result (out.new ≡ out.old ++ shown_area size) }
 {
     put_decimal(out, size)?;
     out.append(b" in ")?;
@@ -100,7 +101,7 @@ fn put_area(out: &mut Bytes, size: u64) -> Result<(), Memory>
 // Puts each of the areas behind a comma.
 fn put_more_areas(out: &mut Bytes, areas: &[u64]) -> Result<(), Memory>
     requires { AllByRecursion IsAreaSize areas.now }
-    ensures { OnOk result (out.new ≡ out.old ++ flat_map (λ (more : ℕ). codes ", " ++ area_text more) areas.now) }
+    ensures { OnOk result (out.new ≡ out.old ++ flat_map (λ (more : ℕ). codes ", " ++ shown_area more) areas.now) }
 {
     for size in areas {
         out.append(b", ")?;
@@ -137,32 +138,31 @@ fn put_parts(out: &mut Bytes, caches: &[CacheConf], areas: &[u64]) -> Result<(),
     put_areas(out, areas)
 }
 
+// Puts how many rules a table has.
+fn put_rule_count(out: &mut Bytes, rules: &RuleTable, one: &[u8], more: &[u8]) -> Result<(), Memory>
+    ensures { OnOk result (out.new ≡ out.old ++ codes ", " ++ count_text (length (rules_of rules.now)) one.now more.now) }
+{
+    out.append(b", ")?;
+    put_count(out, rules.len() as u64, one, more)
+}
+
 // Puts how many rules there are.
 fn put_rules(out: &mut Bytes, routes: &RuleTable, tasks: &RuleTable) -> Result<(), Memory>
     ensures { OnOk result (out.new ≡ out.old ++ rules_text routes.now tasks.now) }
 {
-    out.append(b", ")?;
-    put_count(
-        out,
-        routes.len() as u64,
-        b"rule of requests",
-        b"rules of requests",
-    )?;
-    out.append(b", ")?;
-    put_count(out, tasks.len() as u64, b"rule of tasks", b"rules of tasks")
+    put_rule_count(out, routes, b"rule of requests", b"rules of requests")?;
+    put_rule_count(out, tasks, b"rule of tasks", b"rules of tasks")
 }
 
 // Puts the socket, if there is one.
 fn put_socket(out: &mut Bytes, socket: &[u8]) -> Result<(), Memory>
     ensures { OnOk result (out.new ≡ out.old ++ socket_text socket.now) }
 {
-    match socket {
-        [] => out.append(b", no socket"),
-        _ => {
-            out.append(b", socket ")?;
-            put_shown(out, socket)
-        }
+    if socket.is_empty() {
+        return out.append(b", no socket");
     }
+    out.append(b", socket ")?;
+    put_shown(out, socket)
 }
 
 /// Puts a line that says what the site has.
