@@ -9,8 +9,12 @@ use Rattle.uw_check.specs.Checking.{HaveLines, LedBy, without_line}
 
 -- one more reading behind others
 pub led_more : (faults : List ConfFault) (text : List ℕ) (before : ℕ) (left : List ℕ) (middle after : ℕ) (fault : ConfFault) → LedBy faults text before left middle → ReadsConf left middle after (Err (errors.Refused fault)) → LedBy (faults ++ fault ∷ []) text before (without_line fault.line left) after
-led_more [] text before left middle after fault led more =
-    (after, subst (λ (start : ℕ). ReadsConf text start after (Err (errors.Refused fault))) led.1 (subst (λ (whole : List ℕ). ReadsConf whole middle after (Err (errors.Refused fault))) led.0 more), subst (λ (whole : List ℕ). without_line fault.line left ≡ without_line fault.line whole) led.0 refl, refl)
+led_more [] text before left middle after fault led more = (
+  after,
+  subst (λ (start : ℕ). ReadsConf text start after (Err (errors.Refused fault))) led.1
+      (subst (λ (whole : List ℕ). ReadsConf whole middle after (Err (errors.Refused fault))) led.0 more),
+  (subst (λ (whole : List ℕ). without_line fault.line left ≡ without_line fault.line whole) led.0 refl, refl),
+)
 led_more (first ∷ faults) text before left middle after fault led more =
     (led.0, led.1, led_more faults (without_line first.line text) led.0 left middle after fault led.2 more)
 

@@ -89,7 +89,7 @@ fault_line path fault sentence =
 abbrev pub TellsEach : List ℕ → List ConfFault → List ℕ → Type 0
 TellsEach path [] text = text ≡ []
 TellsEach path (fault ∷ faults) text =
-    (sentence : List ℕ) × ((rest : List ℕ) × ((text ≡ fault_line path fault sentence ++ rest) × TellsEach path faults rest))
+    (sentence : List ℕ) × (rest : List ℕ) × (text ≡ fault_line path fault sentence ++ rest) × TellsEach path faults rest
 
 -- the line behind the others where as many are told as may be
 abbrev pub more_line : List ℕ → ℕ → List ℕ

@@ -1,5 +1,6 @@
 use Rattle.std.proofs.Common.{◌<◌, ◌≤◌, ℕ, List, [], ◌∷◌, ◌++◌, length, refl, sym, ap, subst, ◌∙◌, arith, inl, inr, Ok, Err}
 use Rattle.std.proofs.lemmas.List.{length_push}
+use Rattle.uw_conf.specs.declared.conf.ConfError.{ConfError}
 use Rattle.uw_conf.specs.declared.conf.ConfError.TheVariants as errors
 use Rattle.uw_conf.specs.declared.conf.ConfFault.{ConfFault}
 use Rattle.uw_conf.specs.Given.{ReadsConf}
@@ -20,8 +21,7 @@ returns-in-Ok-clause-checks g c =
       ends =
           inr (inr (
             c.readings.invariant.lines,
-            c.in-Ok.conf,
-            subst (λ (text : List ℕ). ReadsConf text before after (Ok c.in-Ok.conf)) c.as_slice.ensures c.in-Ok.ensures.says,
+            (c.in-Ok.conf, subst (λ (text : List ℕ). ReadsConf text before after (Ok c.in-Ok.conf)) c.as_slice.ensures c.in-Ok.ensures.says),
           ));
     }
 
@@ -34,7 +34,8 @@ returns-then-fault-eq0-clause-checks g c =
     let fault = c.in-Err-Refused.fault in
     let left = c.readings.left in
     let reads : ReadsConf left before after (Err (errors.Refused fault)) =
-    subst (λ (text : List ℕ). ReadsConf text before after (Err (errors.Refused fault))) c.as_slice.ensures c.in-Err-Refused.ensures.says
+    subst (λ (error : ConfError). ReadsConf left before after (Err error)) c.in-Err-Refused.field-0-is
+    (subst (λ (text : List ℕ). ReadsConf text before after (Err c.in-Err-Refused.field-0)) c.as_slice.ensures c.in-Err-Refused.ensures.says)
     in
     let grown : length (told ++ fault ∷ []) ≤ 50 = omega (arith, length_push told fault, c.len.ensures) in
     subst (λ (faults : List ConfFault). TellsRefused c.args.text.now start after faults) (sym c.in_ok-push-in-Err-Refused.ensures.ok)
@@ -60,7 +61,8 @@ readings-preserved g c =
     let fault = c.in-Err-Refused.fault in
     let left = c.readings.left in
     let reads : ReadsConf left before after (Err (errors.Refused fault)) =
-    subst (λ (text : List ℕ). ReadsConf text before after (Err (errors.Refused fault))) c.as_slice.ensures c.in-Err-Refused.ensures.says
+    subst (λ (error : ConfError). ReadsConf left before after (Err error)) c.in-Err-Refused.field-0-is
+    (subst (λ (text : List ℕ). ReadsConf text before after (Err c.in-Err-Refused.field-0)) c.as_slice.ensures c.in-Err-Refused.ensures.says)
     in
     let pushed = sym c.in_ok-push-in-Err-Refused.ensures.ok in
     let shorter = c.in_ok-left-in-Err-Refused.ensures.left ∙ ap (λ (text : List ℕ). without_line fault.line text) c.as_slice-in-Err-Refused.ensures in
