@@ -1,0 +1,232 @@
+-- An entry leaves the list with which a region agrees.
+use Rattle.std.proofs.Common.{◌≡◌, ◌≢◌, ◌⊎◌, ⊎_elim, inl, inr, ℕ, zero, suc, ◌+◌, ◌-◌, ◌*◌, ◌/◌, ◌%◌, ◌<◌, ◌≤◌, ◌==◌, ◌↔◌, Bool, true, false, not, cond, nat_le, nat_lt, List, [], ◌∷◌, ◌++◌, length, refl, sym, ap, ◌∙◌, subst, arith}
+use Rattle.std.proofs.lemmas.Bool.{cases_eq, cases_lt, false_from_ne_true}
+use Rattle.std.proofs.lemmas.Bool.Decides.{nat_tests}
+use Rattle.std.specs.Str.{bytes_eq}
+use Rattle.uw_model.specs.declared.conf.CacheConf.{CacheConf}
+use Rattle.uw_model.specs.declared.entries.Entry.{Entry}
+use Rattle.uw_model.specs.Entries.{IsEntry, covers, span, span_of}
+use Rattle.uw_model.specs.Layout.{bitmap_words}
+use Rattle.uw_model.specs.Calls.{without}
+use Rattle.uw_model.proofs.PartLemmas.{part_filter, part_state}
+use Rattle.uw_words.specs.declared.shape.Shape.{Shape}
+use Rattle.uw_words.specs.Shapes.{IsShape, bit_words, shape_words}
+use Rattle.uw_words.specs.Plans.{Plan}
+use Rattle.uw_words.specs.Parts.{GrewAt, seen, with_places, places_of}
+use Rattle.uw_words.specs.Numbers.{AreDistinct, IsNoneOf, IsOneOf, without_number}
+use Rattle.uw_words.specs.Walks.{item_word, link_of}
+use Rattle.uw_words.proofs.Links.{walk_short}
+use Rattle.uw_words.proofs.Numbers.{gone, none_without, not_none, one_apart, one_of_without}
+use Rattle.uw_intent.specs.RedoRecord.{IsTarget}
+use Rattle.uw_bitmap.specs.Bits.{ChangesRun, is_in_run, is_marked, run_places}
+use Rattle.uw_bitmap.proofs.Runs.{before_run, behind_run, in_run}
+use Rattle.uw_chains.specs.Chains.{IsChains, item_chain, with_chain}
+use Rattle.uw_chains.proofs.Places.{own_chain, own_short, with_other, with_same}
+use Rattle.uw_items.specs.Items.{HoldsFields}
+use Rattle.uw_plan.specs.Regions.{frame_of, shape_of}
+use Rattle.uw_plan.specs.Parts.{HoldEntries, HoldsEntry, HoldsParts, Parts, fields_of_entry}
+use Rattle.uw_plan.specs.Agreement.{AgreesAs, FitsList, is_covered}
+use Rattle.uw_plan.specs.Plans.{Costs, IsPaired, is_bit_place, item_run_places}
+use Rattle.uw_plan.specs.EntrySteps.{GrewInZones, IsListedIn, free_zones, freed_parts, list_zones, unlisted_parts, unmarked_parts, zone_of}
+use Rattle.uw_plan.proofs.Shapes.{IsShapeOf}
+use Rattle.uw_plan.proofs.Zones.{StaysOff, bit_zone, block_zone, chain_stays, entries_stay, zones_off}
+use Rattle.uw_plan.proofs.Parted.{Parted, covered_as_before, paired_entry, paired_holds, paired_item, parted, parted_hold, parted_length, uncovered}
+use Rattle.uw_plan.proofs.Costing.{costs_of}
+use Rattle.uw_plan.proofs.Steps.{bit_zones, run_bits, run_stays, unmarked}
+
+-- numbers without one of them
+one_left : (numbers : List ℕ) (number other : ℕ) → IsOneOf numbers other → other ≢ number → IsOneOf (without_number numbers number) other
+one_left [] number other one apart = absurd one
+one_left (first ∷ numbers) number other one apart = elim (cases_eq first number) [
+  | inl same ↦ subst (λ (l : List ℕ). IsOneOf l other) (let e : numbers ≡ without_number (first ∷ numbers) number = grind (arith, nat_tests) in e)
+      (⊎_elim (λ here. absurd (apart (sym here ∙ same))) (λ later. later) one)
+  | inr differs ↦ subst (λ (l : List ℕ). IsOneOf l other) (let e : first ∷ without_number numbers number ≡ without_number (first ∷ numbers) number = grind (arith, nat_tests) in e)
+      (⊎_elim (λ here. inl here) (λ later. inr (one_left numbers number other later apart)) one)
+]
+
+none_but : (numbers : List ℕ) (number other : ℕ) → IsNoneOf (without_number numbers number) other → other ≢ number → IsNoneOf numbers other
+none_but [] number other none apart = tt
+none_but (first ∷ numbers) number other none apart = elim (cases_eq first number) [
+  | inl same ↦ (
+      λ here. apart (sym here ∙ same),
+      subst (λ (l : List ℕ). IsNoneOf l other) (let e : without_number (first ∷ numbers) number ≡ numbers = grind (arith, nat_tests) in e) none,
+    )
+  | inr differs ↦
+      let both : IsNoneOf (first ∷ without_number numbers number) other =
+      subst (λ (l : List ℕ). IsNoneOf l other) (let e : without_number (first ∷ numbers) number ≡ first ∷ without_number numbers number = grind (arith, nat_tests) in e) none in
+      (both.0, none_but numbers number other both.1 apart)
+]
+
+-- a place of these zones is one that a step may plan beside the bitmap
+module _ (shape : Shape) (is : IsShape shape) (zones : ℕ → Bool) (at : ℕ) (own : zones (zone_of shape at) ≡ true) where
+  off_zone : (zone : ℕ) → zones zone ≡ false → zone_of shape at ≡ zone → ⊥
+  off_zone zone no here = absurd (let none : ⊥ = cc in none)
+
+  pub beside_bits : zones 16 ≡ false → is_bit_place shape at ≡ false
+  beside_bits no = false_from_ne_true (is_bit_place shape at) (λ yes.
+      let low : shape.bitmap ≤ at = grind (arith, nat_tests) in
+      let high : at < shape.chains = grind (arith, nat_tests) in
+      off_zone 16 no (bit_zone shape is at low high))
+
+  pub target_of : zones 18 ≡ false → zones 10 ≡ false → zones 11 ≡ false → IsTarget (frame_of shape) (shape_words shape) at
+  target_of blocks gate used =
+      let below : at < shape.blocks = elim (cases_lt at shape.blocks) [ inl low ↦ low | inr high ↦ absurd (off_zone 18 blocks (block_zone shape is at high)) ] in
+      record {
+        within = omega (arith, below, is.intent);
+        beyond = record {
+          outside = inl (omega (arith, below, is.intent));
+          gate = λ same. off_zone 10 gate (ap (zone_of shape) same);
+          used = λ same. off_zone 11 used (ap (zone_of shape) same);
+        };
+      }
+
+-- the parts and the list after an entry left
+module _ (conf : CacheConf) (shape : Shape) (of : IsShapeOf conf shape) (reader : ℕ → ℕ) (items : List ℕ) (list : List Entry) (item : ℕ) (e : Entry)
+    (agrees : AgreesAs reader shape conf items list) (paired : IsPaired items list item e) where
+  parts : Parts
+  parts = agrees.parts
+
+  recent : IsOneOf parts.items item
+  recent = subst (λ (l : List ℕ). IsOneOf l item) (sym agrees.is) (paired_item items list item e paired)
+
+  recent_short : (other : ℕ) → IsOneOf parts.items other → other < shape.n_items
+  recent_short other one = walk_short shape reader 2 parts.items (reader (shape.head + 6)) agrees.held.recency.walk other one
+
+  pub item_short : item < shape.n_items
+  item_short = recent_short item recent
+
+  own : ℕ
+  own = item_chain reader shape item
+
+  distinct : AreDistinct parts.items
+  distinct = agrees.held.recency.distinct
+
+  pub listed_in : IsListedIn parts own item
+  listed_in = record {
+    recent = recent;
+    chained = agrees.chained item (paired_item items list item e paired);
+    apart = λ other free. (agrees.fits.others other (free_short other free)).0 free;
+  }
+    where
+      free_short : (other : ℕ) → IsOneOf parts.free other → other < conf.items
+      free_short other one = omega (arith, walk_short shape reader 2 parts.free (reader (shape.head + 8)) agrees.held.free.walk other one, of.items)
+
+  pub not_free : IsNoneOf parts.free item
+  not_free = none_of_free parts.free (λ other one same. not_none parts.items item recent (subst (IsNoneOf parts.items) same (listed_in.apart other one)))
+    where
+      none_of_free : (free : List ℕ) → ((other : ℕ) → IsOneOf free other → other ≢ item) → IsNoneOf free item
+      none_of_free [] off = tt
+      none_of_free (first ∷ free) off = (off first (inl refl), none_of_free free (λ other one. off other (inr one)))
+
+  holds : HoldsEntry reader shape item e
+  holds = paired_holds reader shape items list item e agrees.entries paired
+
+  entry : IsEntry conf e
+  entry = paired_entry conf items list item e agrees.fits.state.apart paired
+
+  pub first_word : item_word reader shape item 4 ≡ e.first
+  first_word = holds.fields.first
+
+  pub span_word : span_of conf (item_word reader shape item 5) ≡ span conf e.value
+  span_word = ap (span_of conf) holds.fields.bytes
+
+  pub run_within : item_word reader shape item 4 + span_of conf (item_word reader shape item 5) ≤ shape.n_blocks
+  run_within = omega (arith, first_word, span_word, entry.blocks, of.blocks)
+
+  pub some_in_use : 0 < parts.count
+  some_in_use = omega (arith, agrees.fits.count, parted_length (parted conf items list item e (subst AreDistinct agrees.is distinct) agrees.fits.state.apart paired))
+
+  rest_items : List ℕ
+  rest_items = without_number items item
+
+  rest_list : List Entry
+  rest_list = without e.key list
+
+  both : Parted items list item e rest_items rest_list
+  both = parted conf items list item e (subst AreDistinct agrees.is distinct) agrees.fits.state.apart paired
+
+  pub now_parts : Parts
+  now_parts = freed_parts (unlisted_parts (unmarked_parts parts (item_word reader shape item 4) (span_of conf (item_word reader shape item 5))) own item) item
+
+  own_few : own < shape.n_chains
+  own_few = own_short shape of.is reader item
+
+  still_linked : (chain other : ℕ) → chain < conf.chains → IsOneOf (now_parts.chains chain) other → IsOneOf now_parts.items other
+  still_linked chain other few one = elim (cases_eq chain own) [
+    | inl same ↦
+        let here : IsOneOf (without_number (parts.chains own) item) other =
+        subst (λ (l : List ℕ). IsOneOf l other) (with_same parts.chains own (without_number (parts.chains own) item) chain same) one in
+        let before : IsOneOf (parts.chains own) other = one_of_without (parts.chains own) item other here in
+        let apart : other ≢ item = one_apart (without_number (parts.chains own) item) other item here (gone (parts.chains own) item (agrees.held.chains.distinct own own_few)) in
+        one_left parts.items item other (agrees.fits.linked own other (omega (arith, own_few, of.chains)) before) apart
+    | inr differs ↦
+        let before : IsOneOf (parts.chains chain) other =
+        subst (λ (l : List ℕ). IsOneOf l other) (with_other parts.chains own (without_number (parts.chains own) item) chain differs) one in
+        let falls : chain ≡ item_chain reader shape other = own_chain shape reader parts.chains chain other agrees.held.chains (omega (arith, few, of.chains)) before in
+        one_left parts.items item other (agrees.fits.linked chain other few before) (λ same. differs (falls ∙ ap (item_chain reader shape) same))
+  ]
+
+  still_others : (other : ℕ) → other < conf.items → IsOneOf now_parts.free other ↔ IsNoneOf now_parts.items other
+  still_others other few = (λ one. used one, λ none. unused none)
+    where
+      used : IsOneOf (item ∷ parts.free) other → IsNoneOf (without_number parts.items item) other
+      used (inl same) = subst (IsNoneOf (without_number parts.items item)) same (gone parts.items item distinct)
+      used (inr free) = none_without parts.items item other ((agrees.fits.others other few).0 free)
+
+      unused : IsNoneOf (without_number parts.items item) other → IsOneOf (item ∷ parts.free) other
+      unused none = elim (cases_eq item other) [
+        | inl same ↦ inl same
+        | inr apart ↦ inr ((agrees.fits.others other few).1 (none_but parts.items item other none (λ same. apart (sym same))))
+      ]
+
+  still_covered : (block : ℕ) → block < 64 * bitmap_words conf → now_parts.marked block ≡ is_covered conf rest_list block
+  still_covered block short = elim (cases_lt block (item_word reader shape item 4)) [
+    | inl before ↦
+        rw (before_run (item_word reader shape item 4) (span_of conf (item_word reader shape item 5)) block before)
+        (outside (λ cover. omega (arith, cover.0, before, first_word)))
+    | inr behind ↦ elim (cases_lt block (item_word reader shape item 4 + span_of conf (item_word reader shape item 5))) [
+      | inl within ↦
+          rw (in_run (item_word reader shape item 4) (span_of conf (item_word reader shape item 5)) block behind within)
+          (sym (uncovered conf block both agrees.fits.state.apart (omega (arith, behind, first_word), omega (arith, within, first_word, span_word))))
+      | inr after ↦
+          rw (behind_run (item_word reader shape item 4) (span_of conf (item_word reader shape item 5)) block after)
+          (outside (λ cover. omega (arith, cover.1, after, first_word, span_word)))
+    ]
+  ]
+    where
+      outside : (covers conf e block → ⊥) → parts.marked block ≡ is_covered conf rest_list block
+      outside off = agrees.fits.covered block short ∙ sym (covered_as_before conf block both off)
+
+  still_fits : FitsList conf now_parts rest_list
+  still_fits = record {
+    state = part_state conf (part_filter (λ o. not (bytes_eq o.key e.key)) list) agrees.fits.state;
+    count = omega (arith, agrees.fits.count, parted_length both);
+    linked = still_linked;
+    others = still_others;
+    covered = still_covered;
+  }
+
+  -- the words after it
+  module _ (now : ℕ → ℕ) (held : HoldsParts now shape now_parts) (entries : HoldEntries now shape items list)
+      (same_chain : (other : ℕ) → other < shape.n_items → item_chain now shape other ≡ item_chain reader shape other) where
+    pub left_agrees : AgreesAs now shape conf rest_items rest_list
+    left_agrees = record {
+      parts = now_parts;
+      is = ap (λ (l : List ℕ). without_number l item) agrees.is;
+      held = held;
+      fits = still_fits;
+      entries = parted_hold now shape both entries;
+      chained = λ other one.
+          let before : IsOneOf items other = one_of_without items item other one in
+          let apart : other ≢ item = one_apart rest_items other item one (gone items item (subst AreDistinct agrees.is distinct)) in
+          let short : other < shape.n_items = recent_short other (subst (λ (l : List ℕ). IsOneOf l other) (sym agrees.is) before) in
+          subst (λ (c : ℕ). IsOneOf (now_parts.chains c) other) (sym (same_chain other short)) (on_chain other (agrees.chained other before) apart);
+    }
+      where
+        on_chain : (other : ℕ) → IsOneOf (parts.chains (item_chain reader shape other)) other → other ≢ item → IsOneOf (now_parts.chains (item_chain reader shape other)) other
+        on_chain other one apart = elim (cases_eq (item_chain reader shape other) own) [
+          | inl same ↦
+              subst (λ (l : List ℕ). IsOneOf l other) (sym (with_same parts.chains own (without_number (parts.chains own) item) (item_chain reader shape other) same))
+              (one_left (parts.chains own) item other (subst (λ (c : ℕ). IsOneOf (parts.chains c) other) same one) apart)
+          | inr differs ↦ subst (λ (l : List ℕ). IsOneOf l other) (sym (with_other parts.chains own (without_number (parts.chains own) item) (item_chain reader shape other) differs)) one
+        ]
