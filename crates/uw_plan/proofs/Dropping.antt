@@ -1,7 +1,8 @@
 -- An entry leaves the list with which a region agrees.
 use Rattle.std.proofs.Common.{◌≡◌, ◌≢◌, ◌⊎◌, ⊎_elim, inl, inr, ℕ, zero, suc, ◌+◌, ◌-◌, ◌*◌, ◌/◌, ◌%◌, ◌<◌, ◌≤◌, ◌==◌, ◌↔◌, Bool, true, false, not, cond, nat_le, nat_lt, List, [], ◌∷◌, ◌++◌, length, refl, sym, ap, ◌∙◌, subst, arith}
-use Rattle.std.proofs.lemmas.Bool.{cases_eq, cases_lt, false_from_ne_true}
+use Rattle.std.proofs.lemmas.Bool.{and_from, cases_eq, cases_lt, false_from_ne_true, le-leb, lt-ltb}
 use Rattle.std.proofs.lemmas.Bool.Decides.{nat_tests}
+use Rattle.std.proofs.lemmas.List.{length-append}
 use Rattle.std.specs.Str.{bytes_eq}
 use Rattle.uw_model.specs.declared.conf.CacheConf.{CacheConf}
 use Rattle.uw_model.specs.declared.entries.Entry.{Entry}
@@ -15,6 +16,7 @@ use Rattle.uw_words.specs.Plans.{Plan}
 use Rattle.uw_words.specs.Parts.{GrewAt, seen, with_places, places_of}
 use Rattle.uw_words.specs.Numbers.{AreDistinct, IsNoneOf, IsOneOf, without_number}
 use Rattle.uw_words.specs.Walks.{item_word, link_of}
+use Rattle.uw_words.proofs.Growth.{grew_then}
 use Rattle.uw_words.proofs.Links.{walk_short}
 use Rattle.uw_words.proofs.Numbers.{gone, none_without, not_none, one_apart, one_of_without}
 use Rattle.uw_intent.specs.RedoRecord.{IsTarget}
@@ -48,14 +50,19 @@ none_but : (numbers : List ℕ) (number other : ℕ) → IsNoneOf (without_numbe
 none_but [] number other none apart = tt
 none_but (first ∷ numbers) number other none apart = elim (cases_eq first number) [
   | inl same ↦ (
-      λ here. apart (sym here ∙ same),
-      subst (λ (l : List ℕ). IsNoneOf l other) (let e : without_number (first ∷ numbers) number ≡ numbers = grind (arith, nat_tests) in e) none,
-    )
+    λ here. apart (sym here ∙ same),
+    subst (λ (l : List ℕ). IsNoneOf l other) (let e : without_number (first ∷ numbers) number ≡ numbers = grind (arith, nat_tests) in e) none,
+  )
   | inr differs ↦
       let both : IsNoneOf (first ∷ without_number numbers number) other =
       subst (λ (l : List ℕ). IsNoneOf l other) (let e : without_number (first ∷ numbers) number ≡ first ∷ without_number numbers number = grind (arith, nat_tests) in e) none in
       (both.0, none_but numbers number other both.1 apart)
 ]
+
+one_of_append : (early late : List ℕ) (at : ℕ) → IsOneOf (early ++ late) at → IsOneOf early at ⊎ IsOneOf late at
+one_of_append [] late at one = inr one
+one_of_append (first ∷ early) late at (inl here) = inl (inl here)
+one_of_append (first ∷ early) late at (inr later) = elim (one_of_append early late at later) [ inl one ↦ inl (inr one) | inr one ↦ inr one ]
 
 -- a place of these zones is one that a step may plan beside the bitmap
 module _ (shape : Shape) (is : IsShape shape) (zones : ℕ → Bool) (at : ℕ) (own : zones (zone_of shape at) ≡ true) where
@@ -230,3 +237,132 @@ module _ (conf : CacheConf) (shape : Shape) (of : IsShapeOf conf shape) (reader 
               (one_left (parts.chains own) item other (subst (λ (c : ℕ). IsOneOf (parts.chains c) other) same one) apart)
           | inr differs ↦ subst (λ (l : List ℕ). IsOneOf l other) (sym (with_other parts.chains own (without_number (parts.chains own) item) (item_chain reader shape other) differs)) one
         ]
+
+-- the steps of a drop, one after the other
+module _ (conf : CacheConf) (shape : Shape) (of : IsShapeOf conf shape) (words : List ℕ) (before : Plan) (items : List ℕ) (list : List Entry) (item : ℕ) (e : Entry)
+    (agrees : AgreesAs (seen before words) shape conf items list) (paired : IsPaired items list item e) where
+  old : ℕ → ℕ
+  old = seen before words
+
+  held_parts : Parts
+  held_parts = agrees.parts
+
+  first : ℕ
+  first = item_word old shape item 4
+
+  blocks : ℕ
+  blocks = span_of conf (item_word old shape item 5)
+
+  chain : ℕ
+  chain = item_chain old shape item
+
+  within : first + blocks ≤ shape.n_blocks
+  within = run_within conf shape of old items list item e agrees paired
+
+  short : item < shape.n_items
+  short = item_short conf shape of old items list item e agrees paired
+
+  module _ (released : Plan) (bits : ChangesRun false (is_marked old shape) (is_marked (seen released words) shape) first blocks)
+      (ran : GrewAt (run_places shape first blocks) before released) where
+    run_off : StaysOff shape bit_zones old (seen released words)
+    run_off = run_stays shape of.is words before released first blocks within ran
+
+    released_parts : Parts
+    released_parts = unmarked_parts held_parts first blocks
+
+    pub released_held : HoldsParts (seen released words) shape released_parts
+    released_held = unmarked shape of.is words before released first blocks within bits ran held_parts agrees.held
+
+    chain_released : item_chain (seen released words) shape item ≡ chain
+    chain_released = chain_stays shape of.is bit_zones old (seen released words) run_off item short refl
+
+    listed_then : IsListedIn released_parts chain item
+    listed_then =
+        let listed = listed_in conf shape of old items list item e agrees paired in
+        record { recent = listed.recent; chained = listed.chained; apart = listed.apart }
+
+    pub released_listed : IsListedIn released_parts (item_chain (seen released words) shape item) item
+    released_listed = subst (λ (c : ℕ). IsListedIn released_parts c item) (sym chain_released) listed_then
+
+    module _ (left : Plan)
+        (leaves : (parts : Parts) → HoldsParts (seen released words) shape parts → IsListedIn parts (item_chain (seen released words) shape item) item
+        → HoldsParts (seen left words) shape (unlisted_parts parts (item_chain (seen released words) shape item) item))
+        (grew : GrewInZones shape list_zones 3 released left) where
+      left_parts : Parts
+      left_parts = unlisted_parts released_parts chain item
+
+      left_held : HoldsParts (seen left words) shape left_parts
+      left_held =
+          subst (λ (c : ℕ). HoldsParts (seen left words) shape (unlisted_parts released_parts c item)) chain_released (leaves released_parts released_held released_listed)
+
+      left_off : StaysOff shape list_zones (seen released words) (seen left words)
+      left_off = zones_off shape list_zones 3 released left words grew
+
+      pub still_some : 0 < seen left words 9
+      still_some = omega (arith, left_held.count, some_in_use conf shape of old items list item e agrees paired)
+
+      module _ (now : Plan)
+          (frees : (parts : Parts) → HoldsParts (seen left words) shape parts → IsNoneOf parts.items item → IsNoneOf parts.free item → HoldsParts (seen now words) shape (freed_parts parts item))
+          (more : GrewInZones shape free_zones 3 left now) where
+        free_off : StaysOff shape free_zones (seen left words) (seen now words)
+        free_off = zones_off shape free_zones 3 left now words more
+
+        now_held : HoldsParts (seen now words) shape (now_parts conf shape of old items list item e agrees paired)
+        now_held = frees left_parts left_held (gone held_parts.items item agrees.held.recency.distinct) (not_free conf shape of old items list item e agrees paired)
+
+        all_short : (other : ℕ) → IsOneOf items other → other < shape.n_items
+        all_short other one =
+            walk_short shape old 2 held_parts.items (old (shape.head + 6)) agrees.held.recency.walk other (subst (λ (l : List ℕ). IsOneOf l other) (sym agrees.is) one)
+
+        now_entries : HoldEntries (seen now words) shape items list
+        now_entries =
+            let apart = agrees.fits.state.apart in
+            let one = entries_stay shape of.is bit_zones old (seen released words) run_off conf of items list all_short apart refl refl refl refl refl agrees.entries in
+            let two = entries_stay shape of.is list_zones (seen released words) (seen left words) left_off conf of items list all_short apart refl refl refl refl refl one in
+            entries_stay shape of.is free_zones (seen left words) (seen now words) free_off conf of items list all_short apart refl refl refl refl refl two
+
+        now_chain : (other : ℕ) → other < shape.n_items → item_chain (seen now words) shape other ≡ item_chain old shape other
+        now_chain other low =
+            chain_stays shape of.is free_zones (seen left words) (seen now words) free_off other low refl
+            ∙ chain_stays shape of.is list_zones (seen released words) (seen left words) left_off other low refl
+            ∙ chain_stays shape of.is bit_zones old (seen released words) run_off other low refl
+
+        pub dropped : AgreesAs (seen now words) shape conf (without_number items item) (without e.key list)
+        dropped = left_agrees conf shape of old items list item e agrees paired (seen now words) now_held now_entries now_chain
+
+        places_own : (at : ℕ) → IsOneOf (grew.places ++ more.places) at → (is_bit_place shape at ≡ false) × IsTarget (frame_of shape) (shape_words shape) at
+        places_own at one = elim (one_of_append grew.places more.places at one) [
+          | inl early ↦ (
+            beside_bits shape of.is list_zones at (grew.own at early) refl,
+            target_of shape of.is list_zones at (grew.own at early) refl refl refl,
+          )
+          | inr late ↦ (
+            beside_bits shape of.is free_zones at (more.own at late) refl,
+            target_of shape of.is free_zones at (more.own at late) refl refl refl,
+          )
+        ]
+
+        pub dropped_costs : Costs shape 16 (run_places shape first blocks) before now
+        dropped_costs =
+            costs_of shape 16 (run_places shape first blocks) (grew.places ++ more.places) before released now ran
+            (grew_then grew.places more.places released left now grew.grew more.grew)
+            (λ at one. let bit = run_bits shape of.is first blocks at within one in is_bit at bit.0 bit.1)
+            (λ at one. (places_own at one).0)
+            (omega (arith, length-append grew.places more.places, grew.few, more.few))
+            (λ at one. let bit = run_bits shape of.is first blocks at within one in bit_target at bit.0 bit.1)
+            (λ at one. (places_own at one).1)
+          where
+            is_bit : (at : ℕ) → shape.bitmap ≤ at → at < shape.chains → is_bit_place shape at ≡ true
+            is_bit at low high = and_from (nat_le shape.bitmap at) (nat_lt at shape.chains) (le-leb shape.bitmap at low) (lt-ltb at shape.chains high)
+
+            bit_target : (at : ℕ) → shape.bitmap ≤ at → at < shape.chains → IsTarget (frame_of shape) (shape_words shape) at
+            bit_target at low high =
+                let behind : at < shape.intent = omega (arith, high, of.is.items, of.is.blocks, of.is.intent) in
+                record {
+                  within = omega (arith, behind);
+                  beyond = record {
+                    outside = inl behind;
+                    gate = λ same. omega (arith, same, low, of.is.bitmap);
+                    used = λ same. omega (arith, same, low, of.is.bitmap);
+                  };
+                }

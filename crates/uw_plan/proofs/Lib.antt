@@ -7,3 +7,4 @@ pub mod Parted
 pub mod Costing
 pub mod Steps
 pub mod Dropping
+pub mod Leaving
