@@ -14,10 +14,10 @@ use Rattle.uw_plan.specs.Regions.{frame_of}
 -- places of one kind among those that are named
 module _ (test : ℕ → Bool) where
   filter_yes : (first : ℕ) (named : List ℕ) → test first ≡ true → filter test (first ∷ named) ≡ first ∷ filter test named
-  filter_yes first named yes = rw yes refl
+  filter_yes first named passes = rw passes refl
 
   filter_no : (first : ℕ) (named : List ℕ) → test first ≡ false → filter test (first ∷ named) ≡ filter test named
-  filter_no first named no = rw no refl
+  filter_no first named fails = rw fails refl
 
   place_here : (first : ℕ) (named : List ℕ) (at : ℕ) → first ≡ at → with_place (first ∷ named) at ≡ first ∷ named
   place_here first named at same = grind (arith, nat_tests)
@@ -26,39 +26,39 @@ module _ (test : ℕ → Bool) where
   place_later first named at apart = grind (arith, nat_tests)
 
   kept_place : (named : List ℕ) (at : ℕ) → test at ≡ true → filter test (with_place named at) ≡ with_place (filter test named) at
-  kept_place [] at yes = filter_yes at [] yes
-  kept_place (first ∷ named) at yes = elim (cases_eq first at) [
+  kept_place [] at passes = filter_yes at [] passes
+  kept_place (first ∷ named) at passes = elim (cases_eq first at) [
     | inl same ↦
-        let first_yes : test first ≡ true = ap test same ∙ yes in
+        let first_yes : test first ≡ true = ap test same ∙ passes in
         ap (filter test) (place_here first named at same) ∙ filter_yes first named first_yes ∙ sym (place_here first (filter test named) at same)
         ∙ ap (λ (l : List ℕ). with_place l at) (sym (filter_yes first named first_yes))
     | inr apart ↦ elim (cases_Bool (test first)) [
       | inl first_yes ↦
-          ap (filter test) (place_later first named at apart) ∙ filter_yes first (with_place named at) first_yes ∙ ap (λ (l : List ℕ). first ∷ l) (kept_place named at yes)
+          ap (filter test) (place_later first named at apart) ∙ filter_yes first (with_place named at) first_yes ∙ ap (λ (l : List ℕ). first ∷ l) (kept_place named at passes)
           ∙ sym (place_later first (filter test named) at apart)
           ∙ ap (λ (l : List ℕ). with_place l at) (sym (filter_yes first named first_yes))
       | inr first_no ↦
-          ap (filter test) (place_later first named at apart) ∙ filter_no first (with_place named at) first_no ∙ kept_place named at yes
+          ap (filter test) (place_later first named at apart) ∙ filter_no first (with_place named at) first_no ∙ kept_place named at passes
           ∙ ap (λ (l : List ℕ). with_place l at) (sym (filter_no first named first_no))
     ]
   ]
 
   left_place : (named : List ℕ) (at : ℕ) → test at ≡ false → filter test (with_place named at) ≡ filter test named
-  left_place [] at no = filter_no at [] no
-  left_place (first ∷ named) at no = elim (cases_eq first at) [
+  left_place [] at fails = filter_no at [] fails
+  left_place (first ∷ named) at fails = elim (cases_eq first at) [
     | inl same ↦ ap (filter test) (place_here first named at same)
     | inr apart ↦ elim (cases_Bool (test first)) [
       | inl first_yes ↦
-          ap (filter test) (place_later first named at apart) ∙ filter_yes first (with_place named at) first_yes ∙ ap (λ (l : List ℕ). first ∷ l) (left_place named at no)
+          ap (filter test) (place_later first named at apart) ∙ filter_yes first (with_place named at) first_yes ∙ ap (λ (l : List ℕ). first ∷ l) (left_place named at fails)
           ∙ sym (filter_yes first named first_yes)
-      | inr first_no ↦ ap (filter test) (place_later first named at apart) ∙ filter_no first (with_place named at) first_no ∙ left_place named at no ∙ sym (filter_no first named first_no)
+      | inr first_no ↦ ap (filter test) (place_later first named at apart) ∙ filter_no first (with_place named at) first_no ∙ left_place named at fails ∙ sym (filter_no first named first_no)
     ]
   ]
 
   few_place : (named : List ℕ) (at : ℕ) → length (filter test (with_place named at)) ≤ length (filter test named) + 1
   few_place [] at = elim (cases_Bool (test at)) [
-    | inl yes ↦ (let e : length (filter test (at ∷ [])) ≡ 1 = ap length (filter_yes at [] yes) in omega (arith, e))
-    | inr no ↦ (let e : length (filter test (at ∷ [])) ≡ 0 = ap length (filter_no at [] no) in omega (arith, e))
+    | inl passes ↦ (let e : length (filter test (at ∷ [])) ≡ 1 = ap length (filter_yes at [] passes) in omega (arith, e))
+    | inr fails ↦ (let e : length (filter test (at ∷ [])) ≡ 0 = ap length (filter_no at [] fails) in omega (arith, e))
   ]
   few_place (first ∷ named) at =
       let rest : length (filter test (with_place named at)) ≤ length (filter test named) + 1 = few_place named at in
@@ -67,13 +67,13 @@ module _ (test : ℕ → Bool) where
         | inr apart ↦
             let e : length (filter test (with_place (first ∷ named) at)) ≡ length (filter test (first ∷ with_place named at)) = ap (λ (l : List ℕ). length (filter test l)) (place_later first named at apart) in
             elim (cases_Bool (test first)) [
-              | inl yes ↦
-                  let now : length (filter test (first ∷ with_place named at)) ≡ suc (length (filter test (with_place named at))) = ap length (filter_yes first (with_place named at) yes) in
-                  let before : length (filter test (first ∷ named)) ≡ suc (length (filter test named)) = ap length (filter_yes first named yes) in
+              | inl passes ↦
+                  let now : length (filter test (first ∷ with_place named at)) ≡ suc (length (filter test (with_place named at))) = ap length (filter_yes first (with_place named at) passes) in
+                  let before : length (filter test (first ∷ named)) ≡ suc (length (filter test named)) = ap length (filter_yes first named passes) in
                   omega (arith, e, now, before, rest)
-              | inr no ↦
-                  let now : length (filter test (first ∷ with_place named at)) ≡ length (filter test (with_place named at)) = ap length (filter_no first (with_place named at) no) in
-                  let before : length (filter test (first ∷ named)) ≡ length (filter test named) = ap length (filter_no first named no) in
+              | inr fails ↦
+                  let now : length (filter test (first ∷ with_place named at)) ≡ length (filter test (with_place named at)) = ap length (filter_no first (with_place named at) fails) in
+                  let before : length (filter test (first ∷ named)) ≡ length (filter test named) = ap length (filter_no first named fails) in
                   omega (arith, e, now, before, rest)
             ]
       ]

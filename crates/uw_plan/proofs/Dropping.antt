@@ -67,13 +67,13 @@ one_of_append (first ∷ early) late at (inr later) = elim (one_of_append early 
 -- a place of these zones is one that a step may plan beside the bitmap
 module _ (shape : Shape) (is : IsShape shape) (zones : ℕ → Bool) (at : ℕ) (own : zones (zone_of shape at) ≡ true) where
   off_zone : (zone : ℕ) → zones zone ≡ false → zone_of shape at ≡ zone → ⊥
-  off_zone zone no here = absurd (let none : ⊥ = cc in none)
+  off_zone zone fails here = absurd (let none : ⊥ = cc in none)
 
   pub beside_bits : zones 16 ≡ false → is_bit_place shape at ≡ false
-  beside_bits no = false_from_ne_true (is_bit_place shape at) (λ yes.
+  beside_bits fails = false_from_ne_true (is_bit_place shape at) (λ passes.
       let low : shape.bitmap ≤ at = grind (arith, nat_tests) in
       let high : at < shape.chains = grind (arith, nat_tests) in
-      off_zone 16 no (bit_zone shape is at low high))
+      off_zone 16 fails (bit_zone shape is at low high))
 
   pub target_of : zones 18 ≡ false → zones 10 ≡ false → zones 11 ≡ false → IsTarget (frame_of shape) (shape_words shape) at
   target_of blocks gate used =
@@ -90,7 +90,7 @@ module _ (shape : Shape) (is : IsShape shape) (zones : ℕ → Bool) (at : ℕ) 
 -- the parts and the list after an entry left
 module _ (conf : CacheConf) (shape : Shape) (of : IsShapeOf conf shape) (reader : ℕ → ℕ) (items : List ℕ) (list : List Entry) (item : ℕ) (e : Entry)
     (agrees : AgreesAs reader shape conf items list) (paired : IsPaired items list item e) where
-  parts : Parts
+  abbrev pub parts : Parts
   parts = agrees.parts
 
   recent : IsOneOf parts.items item
@@ -102,7 +102,7 @@ module _ (conf : CacheConf) (shape : Shape) (of : IsShapeOf conf shape) (reader 
   pub item_short : item < shape.n_items
   item_short = recent_short item recent
 
-  own : ℕ
+  abbrev pub own : ℕ
   own = item_chain reader shape item
 
   distinct : AreDistinct parts.items
@@ -143,16 +143,16 @@ module _ (conf : CacheConf) (shape : Shape) (of : IsShapeOf conf shape) (reader 
   pub some_in_use : 0 < parts.count
   some_in_use = omega (arith, agrees.fits.count, parted_length (parted conf items list item e (subst AreDistinct agrees.is distinct) agrees.fits.state.apart paired))
 
-  rest_items : List ℕ
+  abbrev pub rest_items : List ℕ
   rest_items = without_number items item
 
-  rest_list : List Entry
+  abbrev pub rest_list : List Entry
   rest_list = without e.key list
 
   both : Parted items list item e rest_items rest_list
   both = parted conf items list item e (subst AreDistinct agrees.is distinct) agrees.fits.state.apart paired
 
-  pub now_parts : Parts
+  abbrev pub now_parts : Parts
   now_parts = freed_parts (unlisted_parts (unmarked_parts parts (item_word reader shape item 4) (span_of conf (item_word reader shape item 5))) own item) item
 
   own_few : own < shape.n_chains
@@ -241,19 +241,19 @@ module _ (conf : CacheConf) (shape : Shape) (of : IsShapeOf conf shape) (reader 
 -- the steps of a drop, one after the other
 module _ (conf : CacheConf) (shape : Shape) (of : IsShapeOf conf shape) (words : List ℕ) (before : Plan) (items : List ℕ) (list : List Entry) (item : ℕ) (e : Entry)
     (agrees : AgreesAs (seen before words) shape conf items list) (paired : IsPaired items list item e) where
-  old : ℕ → ℕ
+  abbrev pub old : ℕ → ℕ
   old = seen before words
 
-  held_parts : Parts
+  abbrev pub held_parts : Parts
   held_parts = agrees.parts
 
-  first : ℕ
+  abbrev pub first : ℕ
   first = item_word old shape item 4
 
-  blocks : ℕ
+  abbrev pub blocks : ℕ
   blocks = span_of conf (item_word old shape item 5)
 
-  chain : ℕ
+  abbrev pub chain : ℕ
   chain = item_chain old shape item
 
   within : first + blocks ≤ shape.n_blocks
@@ -267,7 +267,7 @@ module _ (conf : CacheConf) (shape : Shape) (of : IsShapeOf conf shape) (words :
     run_off : StaysOff shape bit_zones old (seen released words)
     run_off = run_stays shape of.is words before released first blocks within ran
 
-    released_parts : Parts
+    abbrev pub released_parts : Parts
     released_parts = unmarked_parts held_parts first blocks
 
     pub released_held : HoldsParts (seen released words) shape released_parts
@@ -288,7 +288,7 @@ module _ (conf : CacheConf) (shape : Shape) (of : IsShapeOf conf shape) (words :
         (leaves : (parts : Parts) → HoldsParts (seen released words) shape parts → IsListedIn parts (item_chain (seen released words) shape item) item
         → HoldsParts (seen left words) shape (unlisted_parts parts (item_chain (seen released words) shape item) item))
         (grew : GrewInZones shape list_zones 3 released left) where
-      left_parts : Parts
+      abbrev pub left_parts : Parts
       left_parts = unlisted_parts released_parts chain item
 
       left_held : HoldsParts (seen left words) shape left_parts

@@ -21,7 +21,7 @@ module _ (shape : Shape) (is : IsShape shape) (words : List ℕ) (before mid : P
   module _ (out : GrewAt (out_places (seen before words) shape item) before mid)
       (list : (items : List ℕ) → IsRecency (seen before words) shape items → IsOneOf items item → IsRecency (seen mid words) shape (without_number items item))
       (parts : Parts) (held : HoldsParts (seen before words) shape parts) (listed : IsListedIn parts (item_chain (seen before words) shape item) item) where
-    out_parts : Parts
+    abbrev pub out_parts : Parts
     out_parts = record parts { items = without_number parts.items item }
 
     out_held : HoldsParts (seen mid words) shape out_parts
@@ -40,7 +40,7 @@ module _ (shape : Shape) (is : IsShape shape) (words : List ℕ) (before mid : P
     module _ (now : Plan) (unlinks : GrewAt (unlink_places (seen mid words) shape parts.chains item) mid now)
         (chains : IsChains (seen now words) shape
         (with_chain parts.chains (item_chain (seen mid words) shape item) (without_number (parts.chains (item_chain (seen mid words) shape item)) item))) where
-      own : ℕ
+      abbrev pub own : ℕ
       own = item_chain (seen before words) shape item
 
       pub left : HoldsParts (seen now words) shape (unlisted_parts parts own item)

@@ -96,15 +96,15 @@ parted_hold reader shape (there parts) holds = (holds.0, parted_hold reader shap
 
 all_parted : (test : Entry → Bool) {items others : List ℕ} {list rest : List Entry} {item : ℕ} {e : Entry} → Parted items list item e others rest → test e ≡ true
     → list_all test list ≡ list_all test rest
-all_parted test (here {e = e}) yes = rw yes refl
-all_parted test (there {o = o} parts) yes = ap (λ (b : Bool). test o && b) (all_parted test parts yes)
+all_parted test (here {e = e}) passes = rw passes refl
+all_parted test (there {o = o} parts) passes = ap (λ (b : Bool). test o && b) (all_parted test parts passes)
 
 -- an entry covers a block, or it is clear of it
 clear_of : (conf : CacheConf) (e : Entry) (block : ℕ) → (covers conf e block → ⊥) → is_clear_of conf block 1 e ≡ true
 clear_of conf e block off = clear e.first (span conf e.value) block off
   where
     clear : (first n b : ℕ) → ((first ≤ b) × (b < first + n) → ⊥) → (nat_le (first + n) b || nat_le (b + 1) first) ≡ true
-    clear first n b none = true_from_ne_false (nat_le (first + n) b || nat_le (b + 1) first) (λ no. none (let low : first ≤ b = grind (arith, nat_tests) in let high : b < first + n = grind (arith, nat_tests) in (low, high)))
+    clear first n b none = true_from_ne_false (nat_le (first + n) b || nat_le (b + 1) first) (λ fails. none (let low : first ≤ b = grind (arith, nat_tests) in let high : b < first + n = grind (arith, nat_tests) in (low, high)))
 
 others_clear : (conf : CacheConf) (e : Entry) (list : List Entry) (block : ℕ) → IsApartFrom conf e list → covers conf e block → list_all (is_clear_of conf block 1) list ≡ true
 others_clear conf e [] block apart covered = refl

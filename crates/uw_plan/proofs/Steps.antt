@@ -75,13 +75,13 @@ module _ (shape : Shape) (is : IsShape shape) where
   run_zone first n at within one = let bits = run_bits first n at within one in bit_zone shape is at bits.0 bits.1
 
   yes_at : (zones : ℕ → Bool) (at zone : ℕ) → zone_of shape at ≡ zone → zones zone ≡ true → zones (zone_of shape at) ≡ true
-  yes_at zones at zone here yes = ap zones here ∙ yes
+  yes_at zones at zone here passes = ap zones here ∙ passes
 
   head_at : (zones : ℕ → Bool) (at k : ℕ) → at ≡ shape.head + k → zone_of shape k ≡ k → zones k ≡ true → zones (zone_of shape at) ≡ true
-  head_at zones at k here zone yes = yes_at zones at k (ap (zone_of shape) (let e : at ≡ k = omega (arith, here, is.head) in e) ∙ zone) yes
+  head_at zones at k here zone passes = yes_at zones at k (ap (zone_of shape) (let e : at ≡ k = omega (arith, here, is.head) in e) ∙ zone) passes
 
   field_at : (zones : ℕ → Bool) (at item field : ℕ) → at ≡ link_of shape item + field → item < shape.n_items → field < 6 → zones (19 + field) ≡ true → zones (zone_of shape at) ≡ true
-  field_at zones at item field here short small yes = yes_at zones at (19 + field) (ap (zone_of shape) here ∙ field_zone shape is item field short small) yes
+  field_at zones at item field here short small passes = yes_at zones at (19 + field) (ap (zone_of shape) here ∙ field_zone shape is item field short small) passes
 
   pub recency_own : (zones : ℕ → Bool) (items : List ℕ) (at : ℕ) → zones 6 ≡ true → zones 7 ≡ true → zones 20 ≡ true → zones 21 ≡ true
       → ((item : ℕ) → IsOneOf items item → item < shape.n_items) → IsRecencyPlace shape items at → zones (zone_of shape at) ≡ true
