@@ -28,7 +28,7 @@ use Rattle.uw_items.specs.Items.{HoldsFields}
 use Rattle.uw_plan.specs.Regions.{frame_of, shape_of}
 use Rattle.uw_plan.specs.Parts.{HoldEntries, HoldsEntry, HoldsParts, Parts, fields_of_entry}
 use Rattle.uw_plan.specs.Agreement.{AgreesAs, FitsList, is_covered}
-use Rattle.uw_plan.specs.Plans.{Costs, IsPaired, is_bit_place, item_run_places}
+use Rattle.uw_plan.specs.Plans.{Costs, IsInUse, IsPaired, is_bit_place}
 use Rattle.uw_plan.specs.EntrySteps.{GrewInZones, IsListedIn, free_zones, freed_parts, list_zones, unlisted_parts, unmarked_parts, zone_of}
 use Rattle.uw_plan.proofs.Shapes.{IsShapeOf}
 use Rattle.uw_plan.proofs.Zones.{StaysOff, bit_zone, block_zone, chain_stays, entries_stay, zones_off}
@@ -86,6 +86,11 @@ module _ (shape : Shape) (is : IsShape shape) (zones : ℕ → Bool) (at : ℕ) 
           used = λ same. off_zone 11 used (ap (zone_of shape) same);
         };
       }
+
+-- what follows from some list with which the words agree, where an item holds an entry of it
+pub with_used : (reader : ℕ → ℕ) (shape : Shape) (conf : CacheConf) (item : ℕ) {P : Type 0} → IsInUse reader shape conf item
+    → ((items : List ℕ) (list : List Entry) (e : Entry) → AgreesAs reader shape conf items list → IsPaired items list item e → P) → P
+with_used reader shape conf item (items, list, e, (agrees, paired)) follows = follows items list e agrees paired
 
 -- the parts and the list after an entry left
 module _ (conf : CacheConf) (shape : Shape) (of : IsShapeOf conf shape) (reader : ℕ → ℕ) (items : List ℕ) (list : List Entry) (item : ℕ) (e : Entry)

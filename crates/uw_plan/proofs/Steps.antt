@@ -2,6 +2,8 @@
 use Rattle.std.proofs.Common.{◌≡◌, ◌≢◌, ◌⊎◌, inl, inr, ℕ, zero, suc, ◌+◌, ◌-◌, ◌*◌, ◌/◌, ◌%◌, ◌<◌, ◌≤◌, ◌==◌, ◌||◌, Bool, true, false, cond, List, [], ◌∷◌, ◌++◌, length, refl, sym, ap, ◌∙◌, subst, arith}
 use Rattle.std.proofs.lemmas.Bool.{cases_Bool, true≢false}
 use Rattle.std.proofs.lemmas.Bool.Decides.{nat_tests}
+use Rattle.uw_model.specs.declared.conf.CacheConf.{CacheConf}
+use Rattle.uw_model.specs.Entries.{span_of}
 use Rattle.uw_words.specs.declared.shape.Shape.{Shape}
 use Rattle.uw_words.specs.Shapes.{IsShape}
 use Rattle.uw_words.specs.Plans.{Plan, region}
@@ -58,6 +60,15 @@ pub spare_behind : (run : List ℕ) (most : ℕ) (before now : Plan) → GrewAt 
 spare_behind run most before now grew room =
     let named : length (places_of now.writes) ≡ length (with_places (places_of before.writes) run) = ap length grew.named in
     omega (arith, named, length-places now.writes, room, grew.room)
+
+-- what is said of an item's own words is said of the fields that are read from them, and back
+pub by_fields : (conf : CacheConf) {word first bytes len n : ℕ} → word ≡ first → bytes ≡ len → n ≡ span_of conf len → (P : ℕ → ℕ → Type 0) → P word (span_of conf bytes) → P first n
+by_fields conf {word} {first} {bytes} {len} {n} same_first same_length is_span P of_words =
+    subst (P first) (ap (span_of conf) same_length ∙ sym is_span) (subst (λ (f : ℕ). P f (span_of conf bytes)) same_first of_words)
+
+pub of_fields : (conf : CacheConf) {word first bytes len n : ℕ} → word ≡ first → bytes ≡ len → n ≡ span_of conf len → (P : ℕ → ℕ → Type 0) → P first n → P word (span_of conf bytes)
+of_fields conf {word} {first} {bytes} {len} {n} same_first same_length is_span P held =
+    subst (λ (f : ℕ). P f (span_of conf bytes)) (sym same_first) (subst (P first) (is_span ∙ ap (span_of conf) (sym same_length)) held)
 
 module _ (shape : Shape) (is : IsShape shape) where
   -- the zones of places
