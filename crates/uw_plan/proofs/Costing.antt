@@ -1,14 +1,14 @@
 -- What a step costs: planned words of the bitmap, and others.
-use Rattle.std.proofs.Common.{◌≡◌, ◌≢◌, ◌⊎◌, inl, inr, ℕ, zero, suc, ◌+◌, ◌<◌, ◌≤◌, Bool, true, false, not, List, [], ◌∷◌, ◌++◌, length, filter, refl, sym, ap, ◌∙◌, subst, arith}
+use Rattle.std.proofs.Common.{◌≡◌, ◌≢◌, ◌⊎◌, inl, inr, ℕ, suc, ◌+◌, ◌≤◌, Bool, true, false, not, List, [], ◌∷◌, length, filter, refl, sym, ap, ◌∙◌, subst, arith}
 use Rattle.std.proofs.lemmas.Bool.{cases_Bool, cases_eq}
 use Rattle.std.proofs.lemmas.Bool.Decides.{nat_tests}
 use Rattle.uw_words.specs.declared.shape.Shape.{Shape}
-use Rattle.uw_words.specs.Shapes.{IsShape, shape_words}
+use Rattle.uw_words.specs.Shapes.{shape_words}
 use Rattle.uw_words.specs.Plans.{Plan}
 use Rattle.uw_words.specs.Parts.{GrewAt, places_of, with_place, with_places}
 use Rattle.uw_words.specs.Numbers.{IsOneOf}
 use Rattle.uw_intent.specs.RedoRecord.{IsTarget}
-use Rattle.uw_plan.specs.Plans.{Costs, bits_named, is_bit_place, others_named}
+use Rattle.uw_plan.specs.Plans.{Costs, is_bit_place}
 use Rattle.uw_plan.specs.Regions.{frame_of}
 
 -- places of one kind among those that are named

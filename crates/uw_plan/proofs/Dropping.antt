@@ -1,36 +1,35 @@
 -- An entry leaves the list with which a region agrees.
-use Rattle.std.proofs.Common.{◌≡◌, ◌≢◌, ◌⊎◌, ⊎_elim, inl, inr, ℕ, zero, suc, ◌+◌, ◌-◌, ◌*◌, ◌/◌, ◌%◌, ◌<◌, ◌≤◌, ◌==◌, ◌↔◌, Bool, true, false, not, cond, nat_le, nat_lt, List, [], ◌∷◌, ◌++◌, length, refl, sym, ap, ◌∙◌, subst, arith}
+use Rattle.std.proofs.Common.{◌≡◌, ◌≢◌, ◌⊎◌, ⊎_elim, inl, inr, ℕ, ◌+◌, ◌*◌, ◌<◌, ◌≤◌, ◌↔◌, Bool, true, false, not, nat_le, nat_lt, List, [], ◌∷◌, ◌++◌, refl, sym, ap, ◌∙◌, subst, arith}
 use Rattle.std.proofs.lemmas.Bool.{and_from, cases_eq, cases_lt, false_from_ne_true, le-leb, lt-ltb}
 use Rattle.std.proofs.lemmas.Bool.Decides.{nat_tests}
 use Rattle.std.proofs.lemmas.List.{length-append}
 use Rattle.std.specs.Str.{bytes_eq}
 use Rattle.uw_model.specs.declared.conf.CacheConf.{CacheConf}
 use Rattle.uw_model.specs.declared.entries.Entry.{Entry}
-use Rattle.uw_model.specs.Entries.{IsEntry, covers, span, span_of}
+use Rattle.uw_model.specs.Entries.{IsCacheConf, IsEntry, covers, span, span_of}
 use Rattle.uw_model.specs.Layout.{bitmap_words}
 use Rattle.uw_model.specs.Calls.{without}
 use Rattle.uw_model.proofs.PartLemmas.{part_filter, part_state}
 use Rattle.uw_words.specs.declared.shape.Shape.{Shape}
-use Rattle.uw_words.specs.Shapes.{IsShape, bit_words, shape_words}
+use Rattle.uw_words.specs.Shapes.{IsShape, shape_words}
 use Rattle.uw_words.specs.Plans.{Plan}
-use Rattle.uw_words.specs.Parts.{GrewAt, seen, with_places, places_of}
+use Rattle.uw_words.specs.Parts.{GrewAt, seen}
 use Rattle.uw_words.specs.Numbers.{AreDistinct, IsNoneOf, IsOneOf, without_number}
-use Rattle.uw_words.specs.Walks.{item_word, link_of}
+use Rattle.uw_words.specs.Walks.{item_word}
 use Rattle.uw_words.proofs.Growth.{grew_then}
 use Rattle.uw_words.proofs.Links.{walk_short}
 use Rattle.uw_words.proofs.Numbers.{gone, none_without, not_none, one_apart, one_of_without}
 use Rattle.uw_intent.specs.RedoRecord.{IsTarget}
-use Rattle.uw_bitmap.specs.Bits.{ChangesRun, is_in_run, is_marked, run_places}
+use Rattle.uw_bitmap.specs.Bits.{ChangesRun, is_marked, run_places}
 use Rattle.uw_bitmap.proofs.Runs.{before_run, behind_run, in_run}
-use Rattle.uw_chains.specs.Chains.{IsChains, item_chain, with_chain}
+use Rattle.uw_chains.specs.Chains.{item_chain}
 use Rattle.uw_chains.proofs.Places.{own_chain, own_short, with_other, with_same}
-use Rattle.uw_items.specs.Items.{HoldsFields}
 use Rattle.uw_plan.specs.Regions.{frame_of, shape_of}
-use Rattle.uw_plan.specs.Parts.{HoldEntries, HoldsEntry, HoldsParts, Parts, fields_of_entry}
+use Rattle.uw_plan.specs.Parts.{HoldEntries, HoldsEntry, HoldsParts, Parts}
 use Rattle.uw_plan.specs.Agreement.{AgreesAs, FitsList, is_covered}
-use Rattle.uw_plan.specs.Plans.{Costs, IsInUse, IsPaired, is_bit_place}
+use Rattle.uw_plan.specs.Plans.{Costs, HasRoomFor, IsInUse, IsPaired, is_bit_place, item_run_places}
 use Rattle.uw_plan.specs.EntrySteps.{GrewInZones, IsListedIn, free_zones, freed_parts, list_zones, unlisted_parts, unmarked_parts, zone_of}
-use Rattle.uw_plan.proofs.Shapes.{IsShapeOf}
+use Rattle.uw_plan.proofs.Shapes.{IsShapeOf, shape_of_conf}
 use Rattle.uw_plan.proofs.Zones.{StaysOff, bit_zone, block_zone, chain_stays, entries_stay, zones_off}
 use Rattle.uw_plan.proofs.Parted.{Parted, covered_as_before, paired_entry, paired_holds, paired_item, parted, parted_hold, parted_length, uncovered}
 use Rattle.uw_plan.proofs.Costing.{costs_of}
@@ -86,6 +85,17 @@ module _ (shape : Shape) (is : IsShape shape) (zones : ℕ → Bool) (at : ℕ) 
           used = λ same. off_zone 11 used (ap (zone_of shape) same);
         };
       }
+
+-- a shape that is that of a configuration, as code has it
+pub as_shape : (conf : CacheConf) (shape : Shape) → shape ≡ shape_of conf → IsCacheConf conf → IsShapeOf conf shape
+as_shape conf shape same is = subst (IsShapeOf conf) (sym same) (shape_of_conf conf is)
+
+pub as_used : (conf : CacheConf) (shape : Shape) → shape ≡ shape_of conf → (reader : ℕ → ℕ) (item : ℕ) → IsInUse reader (shape_of conf) conf item → IsInUse reader shape conf item
+as_used conf shape same reader item used = subst (λ (s : Shape). IsInUse reader s conf item) (sym same) used
+
+pub as_room : (conf : CacheConf) (shape : Shape) → shape ≡ shape_of conf → (plan : Plan) (most : ℕ) (reader : ℕ → ℕ) (item : ℕ)
+    → HasRoomFor plan most (item_run_places reader (shape_of conf) conf item) → HasRoomFor plan most (item_run_places reader shape conf item)
+as_room conf shape same plan most reader item room = subst (λ (s : Shape). HasRoomFor plan most (item_run_places reader s conf item)) (sym same) room
 
 -- what follows from some list with which the words agree, where an item holds an entry of it
 pub with_used : (reader : ℕ → ℕ) (shape : Shape) (conf : CacheConf) (item : ℕ) {P : Type 0} → IsInUse reader shape conf item
@@ -242,6 +252,9 @@ module _ (conf : CacheConf) (shape : Shape) (of : IsShapeOf conf shape) (reader 
               (one_left (parts.chains own) item other (subst (λ (c : ℕ). IsOneOf (parts.chains c) other) same one) apart)
           | inr differs ↦ subst (λ (l : List ℕ). IsOneOf l other) (sym (with_other parts.chains own (without_number (parts.chains own) item) (item_chain reader shape other) differs)) one
         ]
+
+pub used_short : (conf : CacheConf) (shape : Shape) → IsShapeOf conf shape → (reader : ℕ → ℕ) (item : ℕ) → IsInUse reader shape conf item → item < shape.n_items
+used_short conf shape of reader item used = with_used reader shape conf item used (λ items list e agrees paired. item_short conf shape of reader items list item e agrees paired)
 
 -- the steps of a drop, one after the other
 module _ (conf : CacheConf) (shape : Shape) (of : IsShapeOf conf shape) (words : List ℕ) (before : Plan) (items : List ℕ) (list : List Entry) (item : ℕ) (e : Entry)

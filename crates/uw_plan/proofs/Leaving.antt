@@ -1,11 +1,11 @@
 -- An item leaves the recency list and its chain, and is free.
-use Rattle.std.proofs.Common.{◌≡◌, ◌⊎◌, inl, inr, ℕ, ◌+◌, ◌-◌, ◌<◌, ◌≤◌, Bool, true, List, [], ◌∷◌, ◌++◌, length, refl, sym, ap, ◌∙◌, subst, arith}
+use Rattle.std.proofs.Common.{◌≡◌, ◌⊎◌, inl, inr, ℕ, ◌+◌, ◌-◌, ◌<◌, ◌≤◌, true, List, [], ◌∷◌, ◌++◌, length, refl, sym, ap, ◌∙◌, subst, arith}
 use Rattle.uw_words.specs.declared.shape.Shape.{Shape}
 use Rattle.uw_words.specs.Shapes.{IsShape}
 use Rattle.uw_words.specs.Plans.{Names, Plan}
-use Rattle.uw_words.specs.Parts.{GrewAt, HasRoom, seen}
+use Rattle.uw_words.specs.Parts.{GrewAt, seen}
 use Rattle.uw_words.specs.Numbers.{IsNoneOf, IsOneOf, without_number}
-use Rattle.uw_words.proofs.Growth.{grew_put, grew_then, put_on, spare_room}
+use Rattle.uw_words.proofs.Growth.{grew_put, grew_then, put_on}
 use Rattle.uw_words.proofs.Links.{walk_short}
 use Rattle.uw_recency.specs.Recency.{IsRecency, out_places}
 use Rattle.uw_recency.proofs.Lists.{out_own}

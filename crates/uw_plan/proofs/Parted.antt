@@ -1,5 +1,5 @@
 -- Items and the entries that they hold, without one of both.
-use Rattle.std.proofs.Common.{◌≡◌, ◌≢◌, ◌⊎◌, inl, inr, ℕ, zero, suc, ◌+◌, ◌-◌, ◌<◌, ◌≤◌, ◌&&◌, ◌||◌, nat_le, Bool, true, false, not, List, [], ◌∷◌, length, filter, refl, sym, ap, ◌∙◌, subst, arith}
+use Rattle.std.proofs.Common.{◌≡◌, ◌≢◌, inl, inr, ℕ, suc, ◌+◌, ◌<◌, ◌≤◌, ◌&&◌, ◌||◌, nat_le, Bool, true, false, not, List, [], ◌∷◌, length, refl, sym, ap, subst, arith}
 use Rattle.std.specs.List.{list_all}
 use Rattle.std.specs.Str.{bytes_eq}
 use Rattle.std.proofs.lemmas.Slice.Eq.{bytes_eq-Decides}
@@ -8,9 +8,9 @@ use Rattle.std.proofs.lemmas.Bool.Decides.{nat_tests}
 use Rattle.uw_model.specs.declared.conf.CacheConf.{CacheConf}
 use Rattle.uw_model.specs.declared.entries.Entry.{Entry}
 use Rattle.uw_model.specs.Entries.{AreApart, IsApart, IsApartFrom, IsEntry, covers, span}
-use Rattle.uw_model.specs.Placement.{is_clear_of, is_free}
+use Rattle.uw_model.specs.Placement.{is_clear_of}
 use Rattle.uw_model.specs.Calls.{without}
-use Rattle.uw_model.proofs.KeysLemmas.{other_key, same_key, without_none}
+use Rattle.uw_model.proofs.KeysLemmas.{same_key, without_none}
 use Rattle.uw_model.proofs.StateLemmas.{lacks_apart}
 use Rattle.uw_words.specs.declared.shape.Shape.{Shape}
 use Rattle.uw_words.specs.Numbers.{AreDistinct, IsNoneOf, IsOneOf, without_number}

@@ -1,28 +1,28 @@
 -- What the steps of a drop and of an add do to the parts of a region.
-use Rattle.std.proofs.Common.{◌≡◌, ◌≢◌, ◌⊎◌, inl, inr, ℕ, zero, suc, ◌+◌, ◌-◌, ◌*◌, ◌/◌, ◌%◌, ◌<◌, ◌≤◌, ◌==◌, ◌||◌, Bool, true, false, cond, List, [], ◌∷◌, ◌++◌, length, refl, sym, ap, ◌∙◌, subst, arith}
-use Rattle.std.proofs.lemmas.Bool.{cases_Bool, true≢false}
+use Rattle.std.proofs.Common.{◌≡◌, ◌≢◌, inl, inr, ℕ, suc, ◌+◌, ◌-◌, ◌/◌, ◌<◌, ◌≤◌, ◌==◌, ◌||◌, Bool, true, false, cond, List, [], ◌∷◌, length, refl, sym, ap, ◌∙◌, subst, arith}
+use Rattle.std.proofs.lemmas.Bool.{cases_Bool}
 use Rattle.std.proofs.lemmas.Bool.Decides.{nat_tests}
 use Rattle.uw_model.specs.declared.conf.CacheConf.{CacheConf}
 use Rattle.uw_model.specs.Entries.{span_of}
 use Rattle.uw_words.specs.declared.shape.Shape.{Shape}
 use Rattle.uw_words.specs.Shapes.{IsShape}
 use Rattle.uw_words.specs.Plans.{Plan, region}
-use Rattle.uw_words.specs.Parts.{GrewAt, HasRoom, places_of, seen, with_places}
-use Rattle.uw_words.specs.Numbers.{AreDistinct, IsNoneOf, IsOneOf, places_from, without_number}
+use Rattle.uw_words.specs.Parts.{GrewAt, places_of, seen, with_places}
+use Rattle.uw_words.specs.Numbers.{IsNoneOf, IsOneOf, places_from, without_number}
 use Rattle.uw_words.specs.Walks.{link_of}
-use Rattle.uw_words.proofs.Growth.{grew_put, grew_then, in_row, places-le-length, put_on, read_grown, read_put, spare_room}
+use Rattle.uw_words.proofs.Growth.{grew_put, in_row, places-le-length, put_on, read_grown, read_put}
 use Rattle.uw_words.proofs.Links.{fields_apart, link_above, same_item, walk_short}
-use Rattle.uw_words.proofs.Numbers.{gone, not_none}
+use Rattle.uw_words.proofs.Numbers.{not_none}
 use Rattle.uw_bitmap.specs.Bits.{ChangesRun, is_in_run, is_marked, run_places, word_of}
 use Rattle.uw_recency.specs.Recency.{IsRecency, IsRecencyPlace, out_places}
 use Rattle.uw_recency.proofs.Lists.{depends, out_own}
-use Rattle.uw_chains.specs.Chains.{IsChains, IsChainsPlace, item_chain, unlink_places, with_chain}
+use Rattle.uw_chains.specs.Chains.{IsChains, IsChainsPlace, unlink_places}
 use Rattle.uw_chains.proofs.Places.{unlink_own}
 use Rattle.uw_items.specs.FreeList.{IsFreeList, IsFreePlace, give_places}
 use Rattle.uw_items.proofs.FreeItems.{free_depends}
 use Rattle.uw_plan.specs.Parts.{HoldsParts, Parts}
-use Rattle.uw_plan.specs.EntrySteps.{GrewInZones, IsListedIn, free_zones, freed_parts, list_zones, unlisted_parts, unmarked_parts, zone_of}
-use Rattle.uw_plan.proofs.Zones.{StaysOff, bit_zone, chain_head_zone, chain_stays, chains_stay, field_zone, free_stays, grown_off, head_stays, mark_stays, none_of, recency_stays, word_stays}
+use Rattle.uw_plan.specs.EntrySteps.{unmarked_parts, zone_of}
+use Rattle.uw_plan.proofs.Zones.{StaysOff, bit_zone, chain_head_zone, chains_stay, field_zone, free_stays, grown_off, head_stays, mark_stays, none_of, recency_stays, word_stays}
 
 -- the zones that each call writes to
 abbrev pub bit_zones : ℕ → Bool

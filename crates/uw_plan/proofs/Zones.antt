@@ -1,8 +1,7 @@
 -- The zones of places, and which parts stay where no word of their zones is written.
-use Rattle.std.proofs.Common.{◌≡◌, ◌≢◌, ◌⊎◌, inl, inr, ℕ, ◌+◌, ◌-◌, ◌*◌, ◌/◌, ◌%◌, ◌<◌, ◌≤◌, ◌==◌, min, nat_lt, cond, Bool, true, false, List, [], ◌∷◌, length, refl, sym, ap, ◌∙◌, subst, arith}
+use Rattle.std.proofs.Common.{◌≡◌, ◌⊎◌, inl, inr, ℕ, ◌+◌, ◌-◌, ◌*◌, ◌%◌, ◌<◌, ◌≤◌, ◌==◌, min, nat_lt, cond, Bool, true, false, List, [], ◌∷◌, length, refl, sym, ap, ◌∙◌, arith}
 use Rattle.std.specs.Int.{bit_at}
-use Rattle.std.proofs.lemmas.Bool.{lt-ltb, le-ltb, cases_lt, true≢false}
-use Rattle.std.proofs.lemmas.Bool.Decides.{nat_tests}
+use Rattle.std.proofs.lemmas.Bool.{lt-ltb, le-ltb, true≢false}
 use Rattle.std.proofs.lemmas.Nat.{mod-mul-add}
 use Rattle.uw_model.specs.declared.conf.CacheConf.{CacheConf}
 use Rattle.uw_model.specs.declared.entries.Entry.{Entry}
@@ -15,7 +14,7 @@ use Rattle.uw_words.specs.Parts.{GrewAt, seen}
 use Rattle.uw_words.specs.Numbers.{IsNoneOf, IsOneOf}
 use Rattle.uw_words.specs.Walks.{link_of}
 use Rattle.uw_words.proofs.Growth.{in_row, read_grown}
-use Rattle.uw_words.proofs.Links.{item_within, link_above, walk_short}
+use Rattle.uw_words.proofs.Links.{item_within, walk_short}
 use Rattle.uw_bitmap.specs.Bits.{is_marked, word_of}
 use Rattle.uw_recency.specs.Recency.{IsRecency, IsRecencyPlace}
 use Rattle.uw_recency.proofs.Lists.{depends}

@@ -1,12 +1,11 @@
-use Rattle.std.proofs.Common.{◌≡◌, ℕ, ◌+◌, ◌<◌, ◌≤◌, List, length, sym, ◌∙◌, subst, arith}
+use Rattle.std.proofs.Common.{sym, ◌∙◌, subst, arith}
 use Rattle.uw_words.specs.declared.shape.Shape.{Shape}
 use Rattle.uw_words.specs.Numbers.{without_number}
 use Rattle.uw_words.specs.Parts.{seen}
 use Rattle.uw_model.specs.Calls.{without}
 use Rattle.uw_plan.specs.Agreement.{AgreesAs}
-use Rattle.uw_plan.specs.Plans.{Costs, HasRoomFor, IsInUse, item_run_places}
-use Rattle.uw_plan.proofs.Shapes.{IsShapeOf, shape_of_conf}
-use Rattle.uw_plan.proofs.Dropping.{dropped, dropped_costs, item_short, released_held, released_listed, released_parts, run_within, still_some, with_used}
+use Rattle.uw_plan.specs.Plans.{Costs, item_run_places}
+use Rattle.uw_plan.proofs.Dropping.{as_room, as_shape, as_used, dropped, dropped_costs, released_held, released_listed, released_parts, run_within, still_some, used_short, with_used}
 use Rattle.uw_plan.proofs.Steps.{named_after, spare_behind}
 use Rattle.uw_plan.proofs.entries.drop_entry.Goals as goal
 
@@ -19,9 +18,8 @@ release-requires-clause-item c =
     let shape = c.shape_of-shape.result in
     let old = seen c.args.over.now c.args.ram.now in
     let same = c.shape_of-shape.ensures.parts in
-    let of : IsShapeOf conf shape = subst (IsShapeOf conf) (sym same) (shape_of_conf conf c.requires.conf) in
-    let used : IsInUse old shape conf c.args.item = subst (λ (s : Shape). IsInUse old s conf c.args.item) (sym same) c.requires.used in
-    with_used old shape conf c.args.item used (λ items list e agrees paired. item_short conf shape of old items list c.args.item e agrees paired)
+    let of = as_shape conf shape same c.requires.conf in
+    used_short conf shape of old c.args.item (as_used conf shape same old c.args.item c.requires.used)
 
 pub release-requires-clause-run : goal.release-requires-clause-run
 release-requires-clause-run c =
@@ -29,8 +27,8 @@ release-requires-clause-run c =
     let shape = c.shape_of-shape.result in
     let old = seen c.args.over.now c.args.ram.now in
     let same = c.shape_of-shape.ensures.parts in
-    let of : IsShapeOf conf shape = subst (IsShapeOf conf) (sym same) (shape_of_conf conf c.requires.conf) in
-    let used : IsInUse old shape conf c.args.item = subst (λ (s : Shape). IsInUse old s conf c.args.item) (sym same) c.requires.used in
+    let of = as_shape conf shape same c.requires.conf in
+    let used = as_used conf shape same old c.args.item c.requires.used in
     with_used old shape conf c.args.item used (λ items list e agrees paired. run_within conf shape of old items list c.args.item e agrees paired)
 
 pub release-requires-clause-room : goal.release-requires-clause-room
@@ -38,8 +36,7 @@ release-requires-clause-room c =
     let conf = c.args.conf.now in
     let shape = c.shape_of-shape.result in
     let old = seen c.args.over.now c.args.ram.now in
-    let room : HasRoomFor c.args.over.now 16 (item_run_places old shape conf c.args.item) =
-    subst (λ (s : Shape). HasRoomFor c.args.over.now 16 (item_run_places old s conf c.args.item)) (sym c.shape_of-shape.ensures.parts) c.requires.room in
+    let room = as_room conf shape c.shape_of-shape.ensures.parts c.args.over.now 16 old c.args.item c.requires.room in
     omega (arith, room)
 
 pub leave_lists-requires-clause-region : goal.leave_lists-requires-clause-region
@@ -51,9 +48,8 @@ leave_lists-requires-clause-item c =
     let shape = c.shape_of-shape.result in
     let old = seen c.args.over.now c.args.ram.now in
     let same = c.shape_of-shape.ensures.parts in
-    let of : IsShapeOf conf shape = subst (IsShapeOf conf) (sym same) (shape_of_conf conf c.requires.conf) in
-    let used : IsInUse old shape conf c.args.item = subst (λ (s : Shape). IsInUse old s conf c.args.item) (sym same) c.requires.used in
-    with_used old shape conf c.args.item used (λ items list e agrees paired. item_short conf shape of old items list c.args.item e agrees paired)
+    let of = as_shape conf shape same c.requires.conf in
+    used_short conf shape of old c.args.item (as_used conf shape same old c.args.item c.requires.used)
 
 pub leave_lists-requires-clause-listed : goal.leave_lists-requires-clause-listed
 leave_lists-requires-clause-listed c =
@@ -66,8 +62,8 @@ leave_lists-requires-clause-listed c =
     let bits = c.release.ensures.bits in
     let ran = c.release.ensures.places in
     let same = c.shape_of-shape.ensures.parts in
-    let of : IsShapeOf conf shape = subst (IsShapeOf conf) (sym same) (shape_of_conf conf c.requires.conf) in
-    let used : IsInUse (seen before words) shape conf item = subst (λ (s : Shape). IsInUse (seen before words) s conf item) (sym same) c.requires.used in
+    let of = as_shape conf shape same c.requires.conf in
+    let used = as_used conf shape same (seen before words) item c.requires.used in
     with_used (seen before words) shape conf item used (λ items list e agrees paired. (
       released_parts conf shape of words before items list item e agrees paired released bits ran,
       (
@@ -82,8 +78,7 @@ leave_lists-requires-clause-room c =
     let shape = c.shape_of-shape.result in
     let old = seen c.args.over.now c.args.ram.now in
     let run = item_run_places old shape conf c.args.item in
-    let room : HasRoomFor c.args.over.now 16 run =
-    subst (λ (s : Shape). HasRoomFor c.args.over.now 16 (item_run_places old s conf c.args.item)) (sym c.shape_of-shape.ensures.parts) c.requires.room in
+    let room = as_room conf shape c.shape_of-shape.ensures.parts c.args.over.now 16 old c.args.item c.requires.room in
     omega (arith, spare_behind run 16 c.args.over.now c.release.new.over c.release.ensures.places room)
 
 pub set_free-requires-clause-region : goal.set_free-requires-clause-region
@@ -95,9 +90,8 @@ set_free-requires-clause-item c =
     let shape = c.shape_of-shape.result in
     let old = seen c.args.over.now c.args.ram.now in
     let same = c.shape_of-shape.ensures.parts in
-    let of : IsShapeOf conf shape = subst (IsShapeOf conf) (sym same) (shape_of_conf conf c.requires.conf) in
-    let used : IsInUse old shape conf c.args.item = subst (λ (s : Shape). IsInUse old s conf c.args.item) (sym same) c.requires.used in
-    with_used old shape conf c.args.item used (λ items list e agrees paired. item_short conf shape of old items list c.args.item e agrees paired)
+    let of = as_shape conf shape same c.requires.conf in
+    used_short conf shape of old c.args.item (as_used conf shape same old c.args.item c.requires.used)
 
 pub set_free-requires-clause-some : goal.set_free-requires-clause-some
 set_free-requires-clause-some c =
@@ -107,8 +101,8 @@ set_free-requires-clause-some c =
     let before = c.args.over.now in
     let item = c.args.item in
     let same = c.shape_of-shape.ensures.parts in
-    let of : IsShapeOf conf shape = subst (IsShapeOf conf) (sym same) (shape_of_conf conf c.requires.conf) in
-    let used : IsInUse (seen before words) shape conf item = subst (λ (s : Shape). IsInUse (seen before words) s conf item) (sym same) c.requires.used in
+    let of = as_shape conf shape same c.requires.conf in
+    let used = as_used conf shape same (seen before words) item c.requires.used in
     with_used (seen before words) shape conf item used (λ items list e agrees paired.
     still_some conf shape of words before items list item e agrees paired c.release.new.over c.release.ensures.bits c.release.ensures.places c.leave_lists.new.over
     c.leave_lists.ensures.parts c.leave_lists.ensures.grew)
@@ -119,8 +113,7 @@ set_free-requires-clause-room c =
     let shape = c.shape_of-shape.result in
     let old = seen c.args.over.now c.args.ram.now in
     let run = item_run_places old shape conf c.args.item in
-    let room : HasRoomFor c.args.over.now 16 run =
-    subst (λ (s : Shape). HasRoomFor c.args.over.now 16 (item_run_places old s conf c.args.item)) (sym c.shape_of-shape.ensures.parts) c.requires.room in
+    let room = as_room conf shape c.shape_of-shape.ensures.parts c.args.over.now 16 old c.args.item c.requires.room in
     let spare = spare_behind run 16 c.args.over.now c.release.new.over c.release.ensures.places room in
     let grew = c.leave_lists.ensures.grew in
     let named = named_after grew.places c.release.new.over c.leave_lists.new.over grew.grew in
@@ -135,7 +128,7 @@ returns-clause-list c = λ items list e agrees paired.
     let item = c.args.item in
     let now = c.set_free.new.over in
     let same = c.shape_of-shape.ensures.parts in
-    let of : IsShapeOf conf shape = subst (IsShapeOf conf) (sym same) (shape_of_conf conf c.requires.conf) in
+    let of = as_shape conf shape same c.requires.conf in
     let here : AgreesAs (seen before words) shape conf items list = subst (λ (s : Shape). AgreesAs (seen before words) s conf items list) (sym same) agrees in
     subst (λ (s : Shape). AgreesAs (seen now words) s conf (without_number items item) (without e.key list)) same
     (dropped conf shape of words before items list item e here paired c.release.new.over c.release.ensures.bits c.release.ensures.places c.leave_lists.new.over c.leave_lists.ensures.parts
@@ -150,8 +143,8 @@ returns-clause-costs c =
     let item = c.args.item in
     let now = c.set_free.new.over in
     let same = c.shape_of-shape.ensures.parts in
-    let of : IsShapeOf conf shape = subst (IsShapeOf conf) (sym same) (shape_of_conf conf c.requires.conf) in
-    let used : IsInUse (seen before words) shape conf item = subst (λ (s : Shape). IsInUse (seen before words) s conf item) (sym same) c.requires.used in
+    let of = as_shape conf shape same c.requires.conf in
+    let used = as_used conf shape same (seen before words) item c.requires.used in
     subst (λ (s : Shape). Costs s 16 (item_run_places (seen before words) s conf item) before now) same
     (with_used (seen before words) shape conf item used (λ items list e agrees paired.
     dropped_costs conf shape of words before items list item e agrees paired c.release.new.over c.release.ensures.bits c.release.ensures.places c.leave_lists.new.over

@@ -1,4 +1,4 @@
-use Rattle.std.proofs.Common.{◌≡◌, ◌⊎◌, ℕ, ◌+◌, ◌≤◌, List, length, ap, ◌∙◌, subst, arith}
+use Rattle.std.proofs.Common.{◌+◌, ◌≤◌, length, arith}
 use Rattle.uw_words.specs.Parts.{seen}
 use Rattle.uw_words.proofs.Growth.{spare_room}
 use Rattle.uw_recency.specs.Recency.{out_places}

@@ -1,6 +1,4 @@
-use Rattle.std.proofs.Common.{◌≡◌, ℕ, ◌+◌, ◌≤◌, Bool, false, sym, ap, ◌∙◌, subst}
-use Rattle.uw_model.specs.Entries.{span_of}
-use Rattle.uw_model.specs.declared.conf.CacheConf.{CacheConf}
+use Rattle.std.proofs.Common.{◌+◌, ◌≤◌, false}
 use Rattle.uw_words.specs.Parts.{GrewAt, HasRoom, seen}
 use Rattle.uw_bitmap.specs.Bits.{ChangesRun, is_marked, run_places}
 use Rattle.uw_plan.proofs.Steps.{by_fields, of_fields}

@@ -1,5 +1,4 @@
-use Rattle.std.proofs.Common.{◌≡◌, ◌⊎◌, ℕ, ◌+◌, ◌-◌, ◌<◌, ◌≤◌, length, ap, ◌∙◌, arith}
-use Rattle.uw_words.specs.Parts.{seen}
+use Rattle.std.proofs.Common.{arith}
 use Rattle.uw_words.proofs.Growth.{spare_room}
 use Rattle.uw_items.specs.FreeList.{give_places}
 use Rattle.uw_plan.proofs.Leaving.{freed, freed_grew, room_for_count, same_count}
