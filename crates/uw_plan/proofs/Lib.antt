@@ -2,3 +2,9 @@ pub mod Shapes
 pub mod Agreeing
 pub mod Blanks
 pub mod Examples
+pub mod Zones
+pub mod Parted
+pub mod Costing
+pub mod Steps
+pub mod Dropping
+pub mod Leaving

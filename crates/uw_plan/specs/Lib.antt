@@ -5,3 +5,5 @@ pub mod Bounds
 pub mod CacheKind
 pub mod BlankSteps
 pub mod Example
+pub mod Plans
+pub mod EntrySteps

@@ -3,9 +3,11 @@
 #![tactic(auto)]
 
 mod blank;
+mod entries;
 pub mod laws;
 mod region;
 
 pub use blank::blank_region;
+pub use entries::drop_entry;
 pub use region::{frame_of, shape_of};
 pub use uw_model::words_of;

@@ -1,0 +1,54 @@
+-- What a step of a plan does to the planned words of a region, whatever was planned before it (own rule).
+use Rattle.std.specs.Prelude.{◌≡◌, ◌⊎◌, ℕ, ◌+◌, ◌≤◌, ◌&&◌, not, nat_lt, nat_le, Bool, List, [], ◌∷◌, filter, length}
+use Rattle.uw_model.specs.declared.conf.CacheConf.{CacheConf}
+use Rattle.uw_model.specs.declared.entries.Entry.{Entry}
+use Rattle.uw_model.specs.Entries.{span_of}
+use Rattle.uw_words.specs.declared.shape.Shape.{Shape}
+use Rattle.uw_words.specs.Shapes.{shape_words}
+use Rattle.uw_words.specs.Plans.{Plan}
+use Rattle.uw_words.specs.Numbers.{IsOneOf}
+use Rattle.uw_words.specs.Parts.{places_of, with_places}
+use Rattle.uw_words.specs.Walks.{item_word}
+use Rattle.uw_intent.specs.RedoRecord.{IsTarget}
+use Rattle.uw_bitmap.specs.Bits.{run_places}
+use Rattle.uw_plan.specs.Agreement.{AgreesAs}
+use Rattle.uw_plan.specs.Regions.{frame_of}
+
+-- the entry stands in the list at the place at which the item stands among the items
+abbrev pub IsPaired : List ℕ → List Entry → ℕ → Entry → Type 0
+IsPaired [] list item e = ⊥
+IsPaired (first ∷ items) [] item e = ⊥
+IsPaired (first ∷ items) (other ∷ list) item e = ((first ≡ item) × (other ≡ e)) ⊎ IsPaired items list item e
+
+-- a reader's words agree with some list of which the item holds an entry
+abbrev pub IsInUse : (ℕ → ℕ) → Shape → CacheConf → ℕ → Type 0
+IsInUse reader shape conf item =
+    (items : List ℕ) × (list : List Entry) × (e : Entry) × (AgreesAs reader shape conf items list × IsPaired items list item e)
+
+-- the places of the bitmap's words for the blocks of an item, by its own words
+abbrev pub item_run_places : (ℕ → ℕ) → Shape → CacheConf → ℕ → List ℕ
+item_run_places reader shape conf item =
+    run_places shape (item_word reader shape item 4) (span_of conf (item_word reader shape item 5))
+
+-- the place is a word of the bitmap
+abbrev pub is_bit_place : Shape → ℕ → Bool
+is_bit_place shape at = nat_le shape.bitmap at && nat_lt at shape.chains
+
+-- the planned words of the bitmap, and how many others are planned
+abbrev pub bits_named : Shape → Plan → List ℕ
+bits_named shape plan = filter (λ at. is_bit_place shape at) (places_of plan.writes)
+
+abbrev pub others_named : Shape → Plan → ℕ
+others_named shape plan = length (filter (λ at. not (is_bit_place shape at)) (places_of plan.writes))
+
+-- a step plans words of the bitmap at a run's places, so many other words at most, and each new one beyond the redo record
+pub record Costs (shape : Shape) (most : ℕ) (run : List ℕ) (before now : Plan) : Type 0 where
+  pub room : now.room ≡ before.room
+  pub bits : bits_named shape now ≡ with_places (bits_named shape before) run
+  pub others : others_named shape now ≤ others_named shape before + most
+  pub targets : (at : ℕ) → IsOneOf (places_of now.writes) at
+      → IsOneOf (places_of before.writes) at ⊎ IsTarget (frame_of shape) (shape_words shape) at
+
+-- an overlay can name so many words more beside those of a run
+abbrev pub HasRoomFor : Plan → ℕ → List ℕ → Type 0
+HasRoomFor plan most run = length (with_places (places_of plan.writes) run) + most ≤ plan.room
