@@ -28,10 +28,11 @@ pub record GrewInZones (shape : Shape) (zones : ℕ → Bool) (most : ℕ) (befo
   pub grew : GrewAt places before now
   pub own : (at : ℕ) → IsOneOf places at → zones (zone_of shape at) ≡ true
 
--- the zones that a change of the recency list or of the chains writes to, and those that one of the free list or of the count does
+-- the zones that a change of the recency list or of the chains writes to
 abbrev pub list_zones : ℕ → Bool
 list_zones zone = zone == 6 || zone == 7 || zone == 17 || nat_le 19 zone && nat_lt zone 22
 
+-- the zones that a change of the free list or of the count writes to
 abbrev pub free_zones : ℕ → Bool
 free_zones zone = zone == 8 || zone == 9 || zone == 21
 

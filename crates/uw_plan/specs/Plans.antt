@@ -30,18 +30,20 @@ abbrev pub item_run_places : (ℕ → ℕ) → Shape → CacheConf → ℕ → L
 item_run_places reader shape conf item =
     run_places shape (item_word reader shape item 4) (span_of conf (item_word reader shape item 5))
 
--- the place is a word of the bitmap
+-- the place is a word of the bitmap, as a test
 abbrev pub is_bit_place : Shape → ℕ → Bool
 is_bit_place shape at = nat_le shape.bitmap at && nat_lt at shape.chains
 
--- the planned words of the bitmap, and how many others are planned
+-- the planned places that are words of the bitmap
 abbrev pub bits_named : Shape → Plan → List ℕ
 bits_named shape plan = filter (λ at. is_bit_place shape at) (places_of plan.writes)
 
+-- how many other places are planned
 abbrev pub others_named : Shape → Plan → ℕ
 others_named shape plan = length (filter (λ at. not (is_bit_place shape at)) (places_of plan.writes))
 
--- a step plans words of the bitmap at a run's places, so many other words at most, and each new one beyond the redo record
+-- a step plans words of the bitmap at a run's places, so many other words at most, and each new one within the region, and
+-- neither of the redo record nor the gate or the used word
 pub record Costs (shape : Shape) (most : ℕ) (run : List ℕ) (before now : Plan) : Type 0 where
   pub room : now.room ≡ before.room
   pub bits : bits_named shape now ≡ with_places (bits_named shape before) run

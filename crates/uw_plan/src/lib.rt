@@ -1,5 +1,5 @@
-//! The region of a cache: where its parts stand, which words of it agree with a list of entries, and a region without an
-//! entry.
+//! The region of a cache: where its parts stand, which words of it agree with a list of entries, a region without an
+//! entry, and the words that are planned where an entry leaves the list.
 #![tactic(auto)]
 
 mod blank;
