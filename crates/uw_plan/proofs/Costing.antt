@@ -6,10 +6,16 @@ use Rattle.uw_words.specs.declared.shape.Shape.{Shape}
 use Rattle.uw_words.specs.Shapes.{shape_words}
 use Rattle.uw_words.specs.Plans.{Plan}
 use Rattle.uw_words.specs.Parts.{GrewAt, places_of, with_place, with_places}
-use Rattle.uw_words.specs.Numbers.{IsOneOf}
+use Rattle.uw_words.specs.Numbers.{AreDistinct, IsNoneOf, IsOneOf}
 use Rattle.uw_intent.specs.RedoRecord.{IsTarget}
 use Rattle.uw_plan.specs.Plans.{Costs, is_bit_place}
 use Rattle.uw_plan.specs.Regions.{frame_of}
+
+place_here : (first : ℕ) (named : List ℕ) (at : ℕ) → first ≡ at → with_place (first ∷ named) at ≡ first ∷ named
+place_here first named at same = grind (arith, nat_tests)
+
+place_later : (first : ℕ) (named : List ℕ) (at : ℕ) → first ≢ at → with_place (first ∷ named) at ≡ first ∷ with_place named at
+place_later first named at apart = grind (arith, nat_tests)
 
 -- places of one kind among those that are named
 module _ (test : ℕ → Bool) where
@@ -18,12 +24,6 @@ module _ (test : ℕ → Bool) where
 
   filter_no : (first : ℕ) (named : List ℕ) → test first ≡ false → filter test (first ∷ named) ≡ filter test named
   filter_no first named fails = rw fails refl
-
-  place_here : (first : ℕ) (named : List ℕ) (at : ℕ) → first ≡ at → with_place (first ∷ named) at ≡ first ∷ named
-  place_here first named at same = grind (arith, nat_tests)
-
-  place_later : (first : ℕ) (named : List ℕ) (at : ℕ) → first ≢ at → with_place (first ∷ named) at ≡ first ∷ with_place named at
-  place_later first named at apart = grind (arith, nat_tests)
 
   kept_place : (named : List ℕ) (at : ℕ) → test at ≡ true → filter test (with_place named at) ≡ with_place (filter test named) at
   kept_place [] at passes = filter_yes at [] passes
@@ -109,6 +109,49 @@ one_of_places named (at ∷ places) other one = elim (one_of_places (with_place 
   | inr later ↦ inr (inr later)
 ]
 
+-- a place that is named stays so
+kept_one : (named : List ℕ) (at other : ℕ) → IsOneOf named other → IsOneOf (with_place named at) other
+kept_one [] at other none = absurd none
+kept_one (first ∷ named) at other (inl here) = elim (cases_eq first at) [
+  | inl same ↦ subst (λ (l : List ℕ). IsOneOf l other) (sym (place_here first named at same)) (inl here)
+  | inr apart ↦ subst (λ (l : List ℕ). IsOneOf l other) (sym (place_later first named at apart)) (inl here)
+]
+kept_one (first ∷ named) at other (inr later) = elim (cases_eq first at) [
+  | inl same ↦ subst (λ (l : List ℕ). IsOneOf l other) (sym (place_here first named at same)) (inr later)
+  | inr apart ↦ subst (λ (l : List ℕ). IsOneOf l other) (sym (place_later first named at apart)) (inr (kept_one named at other later))
+]
+
+pub kept_named : (named places : List ℕ) (other : ℕ) → IsOneOf named other → IsOneOf (with_places named places) other
+kept_named named [] other one = one
+kept_named named (at ∷ places) other one = kept_named (with_place named at) places other (kept_one named at other one)
+
+-- places that are named once each stay so
+none_place : (named : List ℕ) (at other : ℕ) → IsNoneOf named other → at ≢ other → IsNoneOf (with_place named at) other
+none_place [] at other none apart = (apart, tt)
+none_place (first ∷ named) at other none apart = elim (cases_eq first at) [
+  | inl same ↦ subst (λ (l : List ℕ). IsNoneOf l other) (sym (place_here first named at same)) none
+  | inr differs ↦ subst (λ (l : List ℕ). IsNoneOf l other) (sym (place_later first named at differs)) (none.0, none_place named at other none.1 apart)
+]
+
+once_more : (named : List ℕ) (at : ℕ) → AreDistinct named → AreDistinct (with_place named at)
+once_more [] at once = (tt, tt)
+once_more (first ∷ named) at once = elim (cases_eq first at) [
+  | inl same ↦ subst AreDistinct (sym (place_here first named at same)) once
+  | inr differs ↦ subst AreDistinct (sym (place_later first named at differs)) (none_place named at first once.0 (λ same. differs (sym same)), once_more named at once.1)
+]
+
+pub once_each : (named places : List ℕ) → AreDistinct named → AreDistinct (with_places named places)
+once_each named [] once = once
+once_each named (at ∷ places) once = once_each (with_place named at) places (once_more named at once)
+
+-- a number is one of some or none of them
+pub one_or_none : (numbers : List ℕ) (number : ℕ) → IsOneOf numbers number ⊎ IsNoneOf numbers number
+one_or_none [] number = inr tt
+one_or_none (first ∷ numbers) number = elim (cases_eq first number) [
+  | inl same ↦ inl (inl same)
+  | inr apart ↦ elim (one_or_none numbers number) [ inl later ↦ inl (inr later) | inr none ↦ inr (apart, none) ]
+]
+
 -- a step that plans words of the bitmap at a run's places, and then other words
 pub costs_of : (shape : Shape) (most : ℕ) (run places : List ℕ) (before mid now : Plan) → GrewAt run before mid → GrewAt places mid now
     → ((at : ℕ) → IsOneOf run at → is_bit_place shape at ≡ true) → ((at : ℕ) → IsOneOf places at → is_bit_place shape at ≡ false) → length places ≤ most
@@ -125,12 +168,15 @@ costs_of shape most run places before mid now ran grew bits others few run_targe
       ap (λ (l : List ℕ). length (filter other l)) ran.named
       ∙ ap length (left_places other (places_of before.writes) run (λ at one. ap not (bits at one))) in
       omega (arith, more, same, few);
-  targets = λ at one. elim (one_of_places (places_of mid.writes) places at (subst (λ (l : List ℕ). IsOneOf l at) grew.named one)) [
-    | inl early ↦ elim (one_of_places (places_of before.writes) run at (subst (λ (l : List ℕ). IsOneOf l at) ran.named early)) [
-      | inl old ↦ inl old
-      | inr new ↦ inr (run_targets at new)
-    ]
-    | inr late ↦ inr (targets at late)
+  kept = λ at one.
+      let mid_kept : IsOneOf (places_of mid.writes) at = subst (λ (l : List ℕ). IsOneOf l at) (sym ran.named) (kept_named (places_of before.writes) run at one) in
+      subst (λ (l : List ℕ). IsOneOf l at) (sym grew.named) (kept_named (places_of mid.writes) places at mid_kept);
+  once = λ distinct.
+      let mid_once : AreDistinct (places_of mid.writes) = subst AreDistinct (sym ran.named) (once_each (places_of before.writes) run distinct) in
+      subst AreDistinct (sym grew.named) (once_each (places_of mid.writes) places mid_once);
+  beyond = λ at. elim (one_or_none run at) [
+    | inl of_run ↦ inl (run_targets at of_run)
+    | inr off_run ↦ elim (one_or_none places at) [ inl of_places ↦ inl (targets at of_places) | inr off ↦ inr (grew.others at off ∙ ran.others at off_run) ]
   ];
 }
   where

@@ -36,7 +36,7 @@ use Rattle.uw_plan.proofs.Costing.{costs_of}
 use Rattle.uw_plan.proofs.Steps.{bit_zones, run_bits, run_stays, unmarked}
 
 -- numbers without one of them
-one_left : (numbers : List ℕ) (number other : ℕ) → IsOneOf numbers other → other ≢ number → IsOneOf (without_number numbers number) other
+pub one_left : (numbers : List ℕ) (number other : ℕ) → IsOneOf numbers other → other ≢ number → IsOneOf (without_number numbers number) other
 one_left [] number other one apart = absurd one
 one_left (first ∷ numbers) number other one apart = elim (cases_eq first number) [
   | inl same ↦ subst (λ (l : List ℕ). IsOneOf l other) (let e : numbers ≡ without_number (first ∷ numbers) number = grind (arith, nat_tests) in e)
@@ -58,7 +58,7 @@ none_but (first ∷ numbers) number other none apart = elim (cases_eq first numb
       (both.0, none_but numbers number other both.1 apart)
 ]
 
-one_of_append : (early late : List ℕ) (at : ℕ) → IsOneOf (early ++ late) at → IsOneOf early at ⊎ IsOneOf late at
+pub one_of_append : (early late : List ℕ) (at : ℕ) → IsOneOf (early ++ late) at → IsOneOf early at ⊎ IsOneOf late at
 one_of_append [] late at one = inr one
 one_of_append (first ∷ early) late at (inl here) = inl (inl here)
 one_of_append (first ∷ early) late at (inr later) = elim (one_of_append early late at later) [ inl one ↦ inl (inr one) | inr one ↦ inr one ]

@@ -8,3 +8,8 @@ pub mod Costing
 pub mod Steps
 pub mod Dropping
 pub mod Leaving
+pub mod Joining
+pub mod Recording
+pub mod Adding
+pub mod Entering
+pub mod AddSteps

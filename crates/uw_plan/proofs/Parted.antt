@@ -100,7 +100,7 @@ all_parted test (here {e = e}) passes = rw passes refl
 all_parted test (there {o = o} parts) passes = ap (λ (b : Bool). test o && b) (all_parted test parts passes)
 
 -- an entry covers a block, or it is clear of it
-clear_of : (conf : CacheConf) (e : Entry) (block : ℕ) → (covers conf e block → ⊥) → is_clear_of conf block 1 e ≡ true
+pub clear_of : (conf : CacheConf) (e : Entry) (block : ℕ) → (covers conf e block → ⊥) → is_clear_of conf block 1 e ≡ true
 clear_of conf e block off = clear e.first (span conf e.value) block off
   where
     clear : (first n b : ℕ) → ((first ≤ b) × (b < first + n) → ⊥) → (nat_le (first + n) b || nat_le (b + 1) first) ≡ true

@@ -17,6 +17,7 @@ pub record IsShapeOf (conf : CacheConf) (shape : Shape) : Type 0 where
   pub items : shape.n_items ≡ conf.items
   pub blocks : shape.n_blocks ≡ conf.blocks
   pub chains : shape.n_chains ≡ conf.chains
+  pub keys : conf.keysize ≤ 8 * shape.key_words
   pub block_bytes : 8 * shape.block_words ≡ conf.blocksize
   pub some_bytes : 0 < conf.blocksize
 
@@ -55,6 +56,7 @@ module _ (conf : CacheConf) (is : IsCacheConf conf) where
     items = refl;
     blocks = refl;
     chains = refl;
+    keys = omega arith;
     block_bytes = omega (arith, is.words);
     some_bytes = omega (arith, is.blocksize.0);
   }

@@ -179,7 +179,7 @@ module _ (shape : Shape) (is : IsShape shape) where
     chain_stays item short off =
         ap (λ (h : ℕ). h % shape.n_chains) (key_stays (link_of shape item + 7) item 7 refl short (omega arith) (omega (arith, stride_eight)) off)
 
-    entry_stays : (conf : CacheConf) → IsShapeOf conf shape → (item : ℕ) (e : Entry) → item < shape.n_items → IsEntry conf e → written 18 ≡ false → written 22 ≡ false → written 23 ≡ false
+    pub entry_stays : (conf : CacheConf) → IsShapeOf conf shape → (item : ℕ) (e : Entry) → item < shape.n_items → IsEntry conf e → written 18 ≡ false → written 22 ≡ false → written 23 ≡ false
         → written 24 ≡ false → written 25 ≡ false → HoldsEntry before shape item e → HoldsEntry now shape item e
     entry_stays conf of item e short entry blocks dies first bytes keys holds = record {
       key = key_same shape item e.key before now (λ at one. key_word at one) holds.key;

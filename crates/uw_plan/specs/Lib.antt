@@ -7,3 +7,4 @@ pub mod BlankSteps
 pub mod Example
 pub mod Plans
 pub mod EntrySteps
+pub mod CallSteps

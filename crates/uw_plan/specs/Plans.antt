@@ -5,8 +5,8 @@ use Rattle.uw_model.specs.declared.entries.Entry.{Entry}
 use Rattle.uw_model.specs.Entries.{span_of}
 use Rattle.uw_words.specs.declared.shape.Shape.{Shape}
 use Rattle.uw_words.specs.Shapes.{shape_words}
-use Rattle.uw_words.specs.Plans.{Plan}
-use Rattle.uw_words.specs.Numbers.{IsOneOf}
+use Rattle.uw_words.specs.Plans.{Plan, planned}
+use Rattle.uw_words.specs.Numbers.{AreDistinct, IsOneOf}
 use Rattle.uw_words.specs.Parts.{places_of, with_places}
 use Rattle.uw_words.specs.Walks.{item_word}
 use Rattle.uw_intent.specs.RedoRecord.{IsTarget}
@@ -35,21 +35,22 @@ abbrev pub is_bit_place : Shape → ℕ → Bool
 is_bit_place shape at = nat_le shape.bitmap at && nat_lt at shape.chains
 
 -- the planned places that are words of the bitmap
-abbrev pub bits_named : Shape → Plan → List ℕ
-bits_named shape plan = filter (λ at. is_bit_place shape at) (places_of plan.writes)
+abbrev pub bit_places : Shape → Plan → List ℕ
+bit_places shape plan = filter (λ at. is_bit_place shape at) (places_of plan.writes)
 
 -- how many other places are planned
-abbrev pub others_named : Shape → Plan → ℕ
-others_named shape plan = length (filter (λ at. not (is_bit_place shape at)) (places_of plan.writes))
+abbrev pub count_of_others : Shape → Plan → ℕ
+count_of_others shape plan = length (filter (λ at. not (is_bit_place shape at)) (places_of plan.writes))
 
--- a step plans words of the bitmap at a run's places, so many other words at most, and each new one within the region, and
--- neither of the redo record nor the gate or the used word
+-- a step plans words of the bitmap at a run's places, and so many other words at most; it gives up no planned place and names
+-- none twice; and all that it plans is within the region, and neither of the redo record nor the gate or the used word
 pub record Costs (shape : Shape) (most : ℕ) (run : List ℕ) (before now : Plan) : Type 0 where
   pub room : now.room ≡ before.room
-  pub bits : bits_named shape now ≡ with_places (bits_named shape before) run
-  pub others : others_named shape now ≤ others_named shape before + most
-  pub targets : (at : ℕ) → IsOneOf (places_of now.writes) at
-      → IsOneOf (places_of before.writes) at ⊎ IsTarget (frame_of shape) (shape_words shape) at
+  pub bits : bit_places shape now ≡ with_places (bit_places shape before) run
+  pub others : count_of_others shape now ≤ count_of_others shape before + most
+  pub kept : (at : ℕ) → IsOneOf (places_of before.writes) at → IsOneOf (places_of now.writes) at
+  pub once : AreDistinct (places_of before.writes) → AreDistinct (places_of now.writes)
+  pub beyond : (at : ℕ) → IsTarget (frame_of shape) (shape_words shape) at ⊎ (planned now.writes at ≡ planned before.writes at)
 
 -- an overlay can name so many words more beside those of a run
 abbrev pub HasRoomFor : Plan → ℕ → List ℕ → Type 0

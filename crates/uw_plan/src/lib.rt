@@ -8,6 +8,6 @@ pub mod laws;
 mod region;
 
 pub use blank::blank_region;
-pub use entries::drop_entry;
+pub use entries::{add_entry, drop_entry};
 pub use region::{frame_of, shape_of};
 pub use uw_model::words_of;
