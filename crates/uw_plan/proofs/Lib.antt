@@ -13,3 +13,4 @@ pub mod Recording
 pub mod Adding
 pub mod Entering
 pub mod AddSteps
+pub mod Planning

@@ -8,3 +8,4 @@ pub mod Example
 pub mod Plans
 pub mod EntrySteps
 pub mod CallSteps
+pub mod CallPlans

@@ -5,9 +5,11 @@
 mod blank;
 mod entries;
 pub mod laws;
+mod plan;
 mod region;
 
 pub use blank::blank_region;
 pub use entries::{add_entry, drop_entry};
+pub use plan::PlanAnswer;
 pub use region::{frame_of, shape_of};
 pub use uw_model::words_of;

@@ -1,0 +1,65 @@
+-- What the plan of a call does: the words that it plans, and the answer that it tells (own rule).
+use Rattle.std.specs.Prelude.{◌≡◌, ℕ, ◌+◌, ◌*◌, ◌<◌, ◌≤◌, List, [], map, length}
+use Rattle.uw_model.specs.declared.conf.CacheConf.{CacheConf}
+use Rattle.uw_model.specs.declared.entries.Entry.{Entry}
+use Rattle.uw_model.specs.declared.calls.Call.{Call}
+use Rattle.uw_model.specs.declared.calls.Answer.{Answer}
+use Rattle.uw_model.specs.declared.calls.Answer.TheVariants as answers
+use Rattle.uw_model.specs.Entries.{IsCacheConf}
+use Rattle.uw_model.specs.Calls.{answer, next_state}
+use Rattle.uw_model.specs.Layout.{plan_room}
+use Rattle.uw_model.specs.Placement.{alive_of}
+use Rattle.uw_words.specs.declared.shape.Shape.{Shape}
+use Rattle.uw_words.specs.Shapes.{shape_words}
+use Rattle.uw_words.specs.Numbers.{AreDistinct, IsOneOf}
+use Rattle.uw_words.specs.Parts.{places_of, seen}
+use Rattle.uw_words.specs.Plans.{Plan, region}
+use Rattle.uw_words.specs.Walks.{item_word}
+use Rattle.uw_intent.specs.RedoRecord.{IsTarget}
+use Rattle.uw_items.specs.Items.{LieInBlocks, held_value}
+use Rattle.uw_plan.specs.Agreement.{Agrees, AgreesAs}
+use Rattle.uw_plan.specs.Bounds.{most_writes}
+use Rattle.uw_plan.specs.Regions.{frame_of, shape_of}
+use Rattle.uw_plan.specs.declared.plan.PlanAnswer.{PlanAnswer}
+use Rattle.uw_plan.specs.declared.plan.PlanAnswer.TheVariants as told
+
+-- a value stands in the blocks that an item names, as a reader gives them
+pub record HoldsValueOf (reader : ℕ → ℕ) (shape : Shape) (item : ℕ) (value : List ℕ) : Type 0 where
+  pub lies : LieInBlocks shape (item_word reader shape item 4) (item_word reader shape item 5)
+  pub is : held_value reader shape item ≡ value
+
+-- the answer that a plan tells: itself; or the value of an item, before the planned words are written and behind them; or the
+-- keys of the alive entries, in order, where no word is planned
+abbrev pub Tells : CacheConf → List ℕ → Plan → ℕ → PlanAnswer → Answer → Type 0
+Tells conf words plan now (told.Ready a) answer = a ≡ answer
+Tells conf words plan now (told.ValueOf item) answer =
+    (value : List ℕ) × ((answer ≡ answers.Value value) × (item < conf.items)
+    × HoldsValueOf (region words) (shape_of conf) item value × HoldsValueOf (seen plan words) (shape_of conf) item value)
+Tells conf words plan now told.KeyList answer =
+    (plan.writes ≡ []) × ((list : List Entry) → Agrees conf words list → answer ≡ answers.Keys (map (λ e. e.key) (alive_of conf now list)))
+
+-- the words that are planned for a call on a list, from an overlay on that plans nothing: read through them a region agrees
+-- with the next list; they are no more than the redo record has room for, their places are once each and may be written, and
+-- a commit of them makes no more writes than the call may
+pub record IsPlanned (conf : CacheConf) (words : List ℕ) (plan : Plan) (list : List Entry) (now : ℕ) (call : Call) : Type 0 where
+  pub items : List ℕ
+  pub agrees : AgreesAs (seen plan words) (shape_of conf) conf items (next_state conf list now call)
+  pub fits : length plan.writes ≤ plan_room conf
+  pub once : AreDistinct (places_of plan.writes)
+  pub targets : (at : ℕ) → IsOneOf (places_of plan.writes) at → IsTarget (frame_of (shape_of conf)) (shape_words (shape_of conf)) at
+  pub few : 4 * length plan.writes + 3 ≤ most_writes conf list now call
+
+-- a region agrees with a list, and nothing is planned for it in an overlay with room for a call
+pub record IsUnplanned (conf : CacheConf) (words : List ℕ) (plan : Plan) : Type 0 where
+  pub is : IsCacheConf conf
+  pub some : (list : List Entry) × Agrees conf words list
+  pub empty : plan.writes ≡ []
+  pub room : plan_room conf ≤ plan.room
+
+-- the words planned for a call are those of each list with which the region agrees, which is one
+abbrev pub PlansFor : CacheConf → List ℕ → Plan → ℕ → Call → Type 0
+PlansFor conf words plan now call = (list : List Entry) → Agrees conf words list → IsPlanned conf words plan list now call
+
+-- the answer told is that of each list with which the region agrees
+abbrev pub TellsOf : CacheConf → List ℕ → Plan → ℕ → Call → PlanAnswer → Type 0
+TellsOf conf words plan now call told = (list : List Entry) → Agrees conf words list → Tells conf words plan now told (answer conf list now call)
