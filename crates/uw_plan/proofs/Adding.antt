@@ -24,7 +24,7 @@ use Rattle.uw_plan.proofs.Parted.{clear_of}
 use Rattle.uw_plan.proofs.Dropping.{one_left}
 
 -- a list that has each number below a bound has at least as many
-length_left : (numbers : List ℕ) (number : ℕ) → IsOneOf numbers number → suc (length (without_number numbers number)) ≡ length numbers
+pub length_left : (numbers : List ℕ) (number : ℕ) → IsOneOf numbers number → suc (length (without_number numbers number)) ≡ length numbers
 length_left [] number one = absurd one
 length_left (first ∷ numbers) number one = elim (cases_eq first number) [
   | inl same ↦ (let e : without_number (first ∷ numbers) number ≡ numbers = grind (arith, nat_tests) in ap (λ (l : List ℕ). suc (length l)) e)

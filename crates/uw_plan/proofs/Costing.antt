@@ -19,10 +19,10 @@ place_later first named at apart = grind (arith, nat_tests)
 
 -- places of one kind among those that are named
 module _ (test : ℕ → Bool) where
-  filter_yes : (first : ℕ) (named : List ℕ) → test first ≡ true → filter test (first ∷ named) ≡ first ∷ filter test named
+  pub filter_yes : (first : ℕ) (named : List ℕ) → test first ≡ true → filter test (first ∷ named) ≡ first ∷ filter test named
   filter_yes first named passes = rw passes refl
 
-  filter_no : (first : ℕ) (named : List ℕ) → test first ≡ false → filter test (first ∷ named) ≡ filter test named
+  pub filter_no : (first : ℕ) (named : List ℕ) → test first ≡ false → filter test (first ∷ named) ≡ filter test named
   filter_no first named fails = rw fails refl
 
   kept_place : (named : List ℕ) (at : ℕ) → test at ≡ true → filter test (with_place named at) ≡ with_place (filter test named) at

@@ -14,3 +14,4 @@ pub mod Adding
 pub mod Entering
 pub mod AddSteps
 pub mod Planning
+pub mod Counting
