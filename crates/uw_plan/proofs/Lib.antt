@@ -15,3 +15,4 @@ pub mod Entering
 pub mod AddSteps
 pub mod Planning
 pub mod Counting
+pub mod Planned

@@ -1,0 +1,95 @@
+-- What is planned for a call, by the steps that were taken.
+use Rattle.std.proofs.Common.{◌≡◌, ◌≢◌, ◌⊎◌, inl, inr, ℕ, suc, ◌+◌, ◌*◌, ◌-◌, ◌<◌, ◌≤◌, Bool, true, false, not, List, [], ◌∷◌, ◌++◌, filter, length, Option, None, Some, refl, sym, ap, ◌∙◌, subst, arith}
+use Rattle.uw_model.specs.declared.conf.CacheConf.{CacheConf}
+use Rattle.uw_model.specs.declared.entries.Entry.{Entry}
+use Rattle.uw_model.specs.declared.calls.Call.{Call}
+use Rattle.uw_model.specs.Entries.{IsCacheConf}
+use Rattle.uw_model.specs.Calls.{next_state}
+use Rattle.uw_model.specs.Layout.{plan_room}
+use Rattle.uw_words.specs.declared.shape.Shape.{Shape}
+use Rattle.uw_words.specs.Shapes.{IsShape, bit_words}
+use Rattle.uw_words.specs.Plans.{Plan, region, through}
+use Rattle.uw_words.specs.Numbers.{AreDistinct, IsOneOf}
+use Rattle.uw_words.specs.Parts.{places_of, seen, with_places}
+use Rattle.uw_plan.specs.Regions.{shape_of}
+use Rattle.uw_plan.specs.Agreement.{Agrees, AgreesAs}
+use Rattle.uw_plan.specs.Bounds.{lost_entries, most_planned, most_writes, written_entry}
+use Rattle.uw_plan.specs.Plans.{Costs, bit_places, count_of_others, is_bit_place}
+use Rattle.uw_plan.specs.CallPlans.{IsPlanned}
+use Rattle.uw_plan.proofs.Shapes.{shape_of_conf}
+use Rattle.uw_plan.proofs.Costing.{once_each}
+use Rattle.uw_plan.proofs.Counting.{bits_within, few_writes, targets_of}
+
+-- what is seen where nothing is planned is the region
+pub seen_empty : (plan : Plan) (words : List ℕ) → plan.writes ≡ [] → seen plan words ≡ region words
+seen_empty plan words empty = ap (λ (w : List (ℕ × ℕ)). through w (region words)) empty
+
+most_least : (conf : CacheConf) (lost : List Entry) (written : Option Entry) → 48 ≤ most_planned conf lost written
+most_least conf lost None = omega arith
+most_least conf lost (Some e) = omega arith
+
+module _ (conf : CacheConf) (is : IsCacheConf conf) (words : List ℕ) (list : List Entry) (now : ℕ) (call : Call) where
+  abbrev shape : Shape
+  shape = shape_of conf
+
+  abbrev next : List Entry
+  next = next_state conf list now call
+
+  abbrev written : Option Entry
+  written = written_entry conf list now call
+
+  abbrev pub most : ℕ
+  most = most_planned conf (lost_entries list next written) written
+
+  -- nothing
+  pub planned_nothing : (plan : Plan) → Agrees conf words list → plan.writes ≡ [] → next ≡ list → IsPlanned conf words plan list now call
+  planned_nothing plan agrees empty same = record {
+    items = agrees.items;
+    agrees = subst (λ (l : List Entry). AgreesAs (seen plan words) shape conf agrees.items l) (sym same)
+        (subst (λ (reader : ℕ → ℕ). AgreesAs reader shape conf agrees.items list) (sym (seen_empty plan words empty)) agrees.agrees);
+    fits = omega (arith, ap length empty);
+    once = subst (λ (w : List (ℕ × ℕ)). AreDistinct (places_of w)) (sym empty) tt;
+    targets = λ at one. absurd (subst (λ (w : List (ℕ × ℕ)). IsOneOf (places_of w) at) empty one);
+    few = omega (arith, ap length empty, most_least conf (lost_entries list next written) written);
+  }
+
+  -- steps from an empty overlay on
+  module _ (before plan : Plan) (empty : before.writes ≡ []) (cost : ℕ) (run : List ℕ) (costs : Costs shape cost run before plan) (items : List ℕ)
+      (agrees : AgreesAs (seen plan words) shape conf items next) where
+    none_other : count_of_others shape before ≡ 0
+    none_other = ap (λ (w : List (ℕ × ℕ)). length (filter (λ at. not (is_bit_place shape at)) (places_of w))) empty
+
+    no_bits : bit_places shape before ≡ []
+    no_bits = ap (λ (w : List (ℕ × ℕ)). filter (λ at. is_bit_place shape at) (places_of w)) empty
+
+    pub bits_are : bit_places shape plan ≡ with_places [] run
+    bits_are = costs.bits ∙ ap (λ (l : List ℕ). with_places l run) no_bits
+
+    few_bits : length (bit_places shape plan) ≤ bit_words shape.n_blocks
+    few_bits = bits_within shape (shape_of_conf conf is).is plan (subst AreDistinct (sym bits_are) (once_each [] run tt))
+
+    pub few_others : count_of_others shape plan ≤ cost
+    few_others = omega (arith, costs.others, none_other)
+
+    pub planned_by : bit_words shape.n_blocks + cost ≤ plan_room conf → length plan.writes + 1 ≤ most → IsPlanned conf words plan list now call
+    planned_by room few = record {
+      items = items;
+      agrees = agrees;
+      fits = omega (arith, few_writes shape plan, few_bits, few_others, room);
+      once = costs.once (subst (λ (w : List (ℕ × ℕ)). AreDistinct (places_of w)) (sym empty) tt);
+      targets = targets_of shape cost run before plan empty costs;
+      few = omega (arith, few);
+    }
+
+  -- the use of an entry
+  pub planned_use : (before plan : Plan) → before.writes ≡ [] → Costs shape 6 [] before plan → (items : List ℕ) → AgreesAs (seen plan words) shape conf items next
+      → IsPlanned conf words plan list now call
+  planned_use before plan empty costs items agrees =
+      planned_by before plan empty 6 [] costs items agrees (omega (arith, is.items))
+      (omega (
+        arith,
+        few_writes shape plan,
+        ap length (bits_are before plan empty 6 [] costs items agrees),
+        few_others before plan empty 6 [] costs items agrees,
+        most_least conf (lost_entries list next written) written,
+      ))
