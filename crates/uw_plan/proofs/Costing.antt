@@ -11,10 +11,10 @@ use Rattle.uw_intent.specs.RedoRecord.{IsTarget}
 use Rattle.uw_plan.specs.Plans.{Costs, is_bit_place}
 use Rattle.uw_plan.specs.Regions.{frame_of}
 
-place_here : (first : ℕ) (named : List ℕ) (at : ℕ) → first ≡ at → with_place (first ∷ named) at ≡ first ∷ named
+pub place_here : (first : ℕ) (named : List ℕ) (at : ℕ) → first ≡ at → with_place (first ∷ named) at ≡ first ∷ named
 place_here first named at same = grind (arith, nat_tests)
 
-place_later : (first : ℕ) (named : List ℕ) (at : ℕ) → first ≢ at → with_place (first ∷ named) at ≡ first ∷ with_place named at
+pub place_later : (first : ℕ) (named : List ℕ) (at : ℕ) → first ≢ at → with_place (first ∷ named) at ≡ first ∷ with_place named at
 place_later first named at apart = grind (arith, nat_tests)
 
 -- places of one kind among those that are named

@@ -16,3 +16,4 @@ pub mod AddSteps
 pub mod Planning
 pub mod Counting
 pub mod Planned
+pub mod Losing

@@ -3,22 +3,25 @@ use Rattle.std.proofs.Common.{◌≡◌, ◌≢◌, ◌⊎◌, inl, inr, ℕ, su
 use Rattle.uw_model.specs.declared.conf.CacheConf.{CacheConf}
 use Rattle.uw_model.specs.declared.entries.Entry.{Entry}
 use Rattle.uw_model.specs.declared.calls.Call.{Call}
-use Rattle.uw_model.specs.Entries.{IsCacheConf}
+use Rattle.uw_model.specs.Entries.{IsCacheConf, IsEntry}
 use Rattle.uw_model.specs.Calls.{next_state}
 use Rattle.uw_model.specs.Layout.{plan_room}
 use Rattle.uw_words.specs.declared.shape.Shape.{Shape}
 use Rattle.uw_words.specs.Shapes.{IsShape, bit_words}
 use Rattle.uw_words.specs.Plans.{Plan, region, through}
 use Rattle.uw_words.specs.Numbers.{AreDistinct, IsOneOf}
+use Rattle.uw_words.specs.Texts.{text_words}
 use Rattle.uw_words.specs.Parts.{places_of, seen, with_places}
 use Rattle.uw_plan.specs.Regions.{shape_of}
 use Rattle.uw_plan.specs.Agreement.{Agrees, AgreesAs}
-use Rattle.uw_plan.specs.Bounds.{lost_entries, most_planned, most_writes, written_entry}
+use Rattle.uw_plan.specs.Bounds.{bitmap_places, lost_entries, most_planned, most_writes, runs_of, written_entry}
 use Rattle.uw_plan.specs.Plans.{Costs, bit_places, count_of_others, is_bit_place}
+use Rattle.uw_plan.specs.CallSteps.{Enters, IsEntryOf, Leaves}
 use Rattle.uw_plan.specs.CallPlans.{IsPlanned}
 use Rattle.uw_plan.proofs.Shapes.{shape_of_conf}
 use Rattle.uw_plan.proofs.Costing.{once_each}
 use Rattle.uw_plan.proofs.Counting.{bits_within, few_writes, targets_of}
+use Rattle.uw_plan.proofs.Losing.{bits_few, gone_few, lost_few, lost_few_behind, lost_has, lost_has_behind}
 
 -- what is seen where nothing is planned is the region
 pub seen_empty : (plan : Plan) (words : List ℕ) → plan.writes ≡ [] → seen plan words ≡ region words
@@ -28,7 +31,12 @@ most_least : (conf : CacheConf) (lost : List Entry) (written : Option Entry) →
 most_least conf lost None = omega arith
 most_least conf lost (Some e) = omega arith
 
-module _ (conf : CacheConf) (is : IsCacheConf conf) (words : List ℕ) (list : List Entry) (now : ℕ) (call : Call) where
+entry_of_append : (some more : List Entry) (e : Entry) → IsEntryOf (some ++ more) e → IsEntryOf some e ⊎ IsEntryOf more e
+entry_of_append [] more e one = inr one
+entry_of_append (first ∷ some) more e (inl here) = inl (inl here)
+entry_of_append (first ∷ some) more e (inr later) = elim (entry_of_append some more e later) [ inl one ↦ inl (inr one) | inr one ↦ inr one ]
+
+module _ (conf : CacheConf) (is : IsCacheConf conf) (words : List ℕ) (list : List Entry) (few_entries : length list ≤ conf.items) (now : ℕ) (call : Call) where
   abbrev shape : Shape
   shape = shape_of conf
 
@@ -92,4 +100,55 @@ module _ (conf : CacheConf) (is : IsCacheConf conf) (words : List ℕ) (list : L
         ap length (bits_are before plan empty 6 [] costs items agrees),
         few_others before plan empty 6 [] costs items agrees,
         most_least conf (lost_entries list next written) written,
+      ))
+
+  -- entries that leave, and no entry that is written
+  pub planned_leaves : (before plan : Plan) → before.writes ≡ [] → written ≡ None → Leaves conf words before plan list next → IsPlanned conf words plan list now call
+  planned_leaves before plan empty none leaves =
+      let cost : ℕ = 16 * length leaves.gone in
+      let run : List ℕ = runs_of conf leaves.gone in
+      let few : length leaves.gone ≤ length (lost_entries list next None) = lost_few list leaves.gone next leaves.leave in
+      let bits : length (with_places [] run) ≤ length (bitmap_places conf (lost_entries list next None)) =
+      bits_few conf leaves.gone (lost_entries list next None) (lost_has list leaves.gone next leaves.leave) in
+      let most_is : most ≡ most_planned conf (lost_entries list next None) None = ap (λ (w : Option Entry). most_planned conf (lost_entries list next w) w) none in
+      planned_by before plan empty cost run leaves.costs leaves.items leaves.agrees
+      (omega (arith, gone_few list leaves.gone next leaves.leave, few_entries))
+      (omega (
+        arith,
+        few_writes shape plan,
+        ap length (bits_are before plan empty cost run leaves.costs leaves.items leaves.agrees),
+        few_others before plan empty cost run leaves.costs leaves.items leaves.agrees,
+        few,
+        bits,
+        most_is,
+      ))
+
+  -- an entry that is written in front of those that are kept
+  pub planned_enters : (before plan : Plan) (w : Entry) (kept : List Entry) → before.writes ≡ [] → written ≡ Some w → next ≡ w ∷ kept → Enters conf words before plan list w kept
+      → IsPlanned conf words plan list now call
+  planned_enters before plan w kept empty some is_next enters =
+      let cost : ℕ = 16 * length enters.gone + (32 + text_words (length w.key) + text_words (length w.value)) in
+      let all : List Entry = enters.gone ++ w ∷ [] in
+      let run : List ℕ = runs_of conf all in
+      let agrees : AgreesAs (seen plan words) shape conf enters.items next = subst (AgreesAs (seen plan words) shape conf enters.items) (sym is_next) enters.agrees in
+      let entry : IsEntry conf w = enters.agrees.fits.state.apart.0 in
+      let lost : List Entry = lost_entries list (w ∷ kept) (Some w) in
+      let few : length enters.gone ≤ length lost = lost_few_behind list enters.gone kept enters.leave w in
+      let bits : length (with_places [] run) ≤ length (bitmap_places conf (w ∷ lost)) =
+      bits_few conf all (w ∷ lost) (λ e one. elim (entry_of_append enters.gone (w ∷ []) e one) [
+        | inl gone ↦ inr (lost_has_behind list enters.gone kept enters.leave w e gone)
+        | inr own ↦ elim own [ inl here ↦ inl here | inr none ↦ absurd none ]
+      ]) in
+      let most_is : most ≡ most_planned conf lost (Some w) =
+      ap (λ (o : Option Entry). most_planned conf (lost_entries list next o) o) some ∙ ap (λ (l : List Entry). most_planned conf (lost_entries list l (Some w)) (Some w)) is_next in
+      planned_by before plan empty cost run enters.costs enters.items agrees
+      (omega (arith, gone_few list enters.gone kept enters.leave, few_entries, entry.key.1, entry.value))
+      (omega (
+        arith,
+        few_writes shape plan,
+        ap length (bits_are before plan empty cost run enters.costs enters.items agrees),
+        few_others before plan empty cost run enters.costs enters.items agrees,
+        few,
+        bits,
+        most_is,
       ))
