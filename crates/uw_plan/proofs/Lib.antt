@@ -17,3 +17,4 @@ pub mod Planning
 pub mod Counting
 pub mod Planned
 pub mod Losing
+pub mod Looking

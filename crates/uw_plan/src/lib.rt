@@ -5,6 +5,7 @@
 mod blank;
 mod entries;
 pub mod laws;
+mod lookup;
 mod plan;
 mod region;
 

@@ -1,0 +1,53 @@
+// An item is found by its key, and what it holds is read.
+ghost use Rattle.std.specs.Prelude.{◌≡◌, ◌==◌, ◌≤◌, ◌+◌, ◌∷◌, ℕ, List, [], None, Some, length, if◌then◌else◌};
+ghost use Rattle.uw_model.specs.declared.entries.Entry.{Entry};
+ghost use Rattle.uw_model.specs.Calls.{alive_at, number_of, without};
+ghost use Rattle.uw_model.specs.Entries.{IsCacheConf};
+ghost use Rattle.uw_model.specs.Layout.{words_of};
+ghost use Rattle.uw_words.specs.Numbers.{without_number};
+ghost use Rattle.uw_words.specs.Parts.{seen};
+ghost use Rattle.uw_plan.specs.Agreement.{AgreesAs};
+ghost use Rattle.uw_plan.specs.Plans.{Costs, IsInUse, IsPaired};
+ghost use Rattle.uw_plan.specs.CallSteps.{HasEntries, IsItemOf, entry_at};
+ghost use Rattle.uw_plan.specs.Regions.{shape_of};
+
+use crate::region::shape_of;
+use uw_chains::find;
+use uw_items::fields_of;
+use uw_model::{CacheConf, is_alive_until};
+use uw_words::{Overlay, Ram};
+
+/// The item that holds the entry of a key, none where no entry has it.
+pub fn item_of_key(ram: &Ram, conf: &CacheConf, over: &Overlay, key: &[u8]) -> Option<u64>
+    requires conf { IsCacheConf conf.now }
+    requires region { length ram.now ≡ words_of conf.now }
+    requires some { HasEntries (seen over.now ram.now) conf.now }
+    ensures { (items : List ℕ) (list : List Entry) → AgreesAs (seen over.now ram.now) (shape_of conf.now) conf.now items list
+        → IsItemOf items list (entry_at list key.now) result }
+{
+    find(ram, over, &shape_of(conf), key)
+}
+
+/// The item that holds the alive entry of a key, none where it has none.
+pub fn alive_item(
+    ram: &Ram,
+    conf: &CacheConf,
+    over: &Overlay,
+    moment: u64,
+    key: &[u8],
+) -> Option<u64>
+    requires conf { IsCacheConf conf.now }
+    requires region { length ram.now ≡ words_of conf.now }
+    requires some { HasEntries (seen over.now ram.now) conf.now }
+    ensures { (items : List ℕ) (list : List Entry) → AgreesAs (seen over.now ram.now) (shape_of conf.now) conf.now items list
+        → IsItemOf items list (alive_at conf.now list moment key.now) result }
+{
+    let Some(item) = item_of_key(ram, conf, over, key) else {
+        return None;
+    };
+    let fields = fields_of(ram, over, &shape_of(conf), item);
+    if !is_alive_until(conf, moment, fields.dies) {
+        return None;
+    }
+    Some(item)
+}
