@@ -18,3 +18,10 @@ pub mod Counting
 pub mod Planned
 pub mod Losing
 pub mod Looking
+pub mod Running
+pub mod OneByOne
+pub mod Walking
+pub mod Sweeping
+pub mod Purging
+pub mod Roomy
+pub mod Writing

@@ -1,9 +1,11 @@
 -- The steps by which a call on a cache is planned, whatever was planned before them (own rule).
-use Rattle.std.specs.Prelude.{◌≡◌, ◌⊎◌, ℕ, ◌+◌, ◌*◌, ◌≤◌, List, [], ◌∷◌, ◌++◌, find, length, Option, None, Some, MatchOption}
+use Rattle.std.specs.Prelude.{◌≡◌, ◌⊎◌, ℕ, ◌+◌, ◌*◌, ◌≤◌, List, [], ◌∷◌, ◌++◌, find, length, Option, None, Some, unwrap_or, Bool, MatchBool, MatchOption}
 use Rattle.std.specs.Str.{bytes_eq}
 use Rattle.uw_model.specs.declared.conf.CacheConf.{CacheConf}
 use Rattle.uw_model.specs.declared.entries.Entry.{Entry}
+use Rattle.uw_model.specs.Entries.{new_entry, span}
 use Rattle.uw_model.specs.Calls.{without}
+use Rattle.uw_model.specs.Placement.{first_run, room}
 use Rattle.uw_words.specs.declared.shape.Shape.{Shape}
 use Rattle.uw_words.specs.Shapes.{bit_words}
 use Rattle.uw_words.specs.Plans.{Plan}
@@ -61,3 +63,12 @@ pub record Enters (conf : CacheConf) (words : List ℕ) (before now : Plan) (lis
   pub leave : LeaveOneByOne list gone kept
   pub agrees : AgreesAs (seen now words) (shape_of conf) conf items (e ∷ kept)
   pub costs : Costs (shape_of conf) (16 * length gone + (32 + text_words (length e.key) + text_words (length e.value))) (runs_of conf (gone ++ e ∷ [])) before now
+
+-- an entry of this key and value was written in front of the list, in room that is made at a moment, or no policy makes room
+abbrev pub IsPut : CacheConf → List ℕ → (before now : Plan) → (moment : ℕ) → (key value : List ℕ) → (dies : ℕ) → List Entry → Bool → Type 0
+IsPut conf words before now moment key value dies list done =
+    let n = span conf value in
+    let kept_by = room conf (without key list) n moment in
+    MatchBool done
+    ((kept : List Entry) × ((kept_by ≡ Some kept) × Enters conf words before now list (new_entry key value dies (unwrap_or (first_run conf kept n) 0) moment) kept))
+    (kept_by ≡ None)

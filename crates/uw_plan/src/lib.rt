@@ -7,7 +7,10 @@ mod entries;
 pub mod laws;
 mod lookup;
 mod plan;
+mod policies;
 mod region;
+mod room;
+mod writes;
 
 pub use blank::blank_region;
 pub use entries::{add_entry, drop_entry};

@@ -15,6 +15,7 @@ use crate::region::shape_of;
 use uw_chains::find;
 use uw_items::fields_of;
 use uw_model::{CacheConf, is_alive_until};
+use uw_recency::to_front;
 use uw_words::{Overlay, Ram};
 
 /// The item that holds the entry of a key, none where no entry has it.
@@ -50,4 +51,37 @@ pub fn alive_item(
         return None;
     }
     Some(item)
+}
+
+/// The number that the value of an item stands for, none where it is not one of eight bytes.
+pub fn number_of_item(ram: &Ram, conf: &CacheConf, over: &Overlay, item: u64) -> Option<i64>
+    requires conf { IsCacheConf conf.now }
+    requires region { length ram.now ≡ words_of conf.now }
+    requires used { IsInUse (seen over.now ram.now) (shape_of conf.now) conf.now item }
+    ensures { (items : List ℕ) (list : List Entry) (e : Entry)
+        → AgreesAs (seen over.now ram.now) (shape_of conf.now) conf.now items list → IsPaired items list item e
+        → result ≡ (if length e.value == 8 then Some (number_of e.value) else None) }
+{
+    let shape = shape_of(conf);
+    let fields = fields_of(ram, over, &shape, item);
+    if fields.length != 8 {
+        return None;
+    }
+    let word = over.load(ram, shape.blocks + fields.first * shape.block_words);
+    Some(word as i64)
+}
+
+/// Plans that the entry of an item is used: it comes to the front of the list. At most six words are planned for it.
+/// Takes no memory.
+pub fn use_entry(ram: &Ram, conf: &CacheConf, over: &mut Overlay, item: u64)
+    requires conf { IsCacheConf conf.now }
+    requires region { length ram.now ≡ words_of conf.now }
+    requires used { IsInUse (seen over.old ram.now) (shape_of conf.now) conf.now item }
+    requires room { length over.old.writes + 6 ≤ over.old.room }
+    ensures list { (items : List ℕ) (list : List Entry) (e : Entry)
+        → AgreesAs (seen over.old ram.now) (shape_of conf.now) conf.now items list → IsPaired items list item e
+        → AgreesAs (seen over.new ram.now) (shape_of conf.now) conf.now (item ∷ without_number items item) (e ∷ without e.key list) }
+    ensures costs { Costs (shape_of conf.now) 6 [] over.old over.new }
+{
+    to_front(ram, over, &shape_of(conf), item);
 }
