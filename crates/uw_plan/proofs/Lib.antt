@@ -25,3 +25,4 @@ pub mod Sweeping
 pub mod Purging
 pub mod Roomy
 pub mod Writing
+pub mod Calling

@@ -1,12 +1,12 @@
 -- What the plan of a call does: the words that it plans, and the answer that it tells (own rule).
-use Rattle.std.specs.Prelude.{◌≡◌, ℕ, ◌+◌, ◌*◌, ◌<◌, ◌≤◌, List, [], map, length}
+use Rattle.std.specs.Prelude.{◌≡◌, ℕ, ◌+◌, ◌*◌, ◌<◌, ◌≤◌, List, [], map, length, Bool, true, false, Option, MatchOption, ℤ}
 use Rattle.uw_model.specs.declared.conf.CacheConf.{CacheConf}
 use Rattle.uw_model.specs.declared.entries.Entry.{Entry}
 use Rattle.uw_model.specs.declared.calls.Call.{Call}
 use Rattle.uw_model.specs.declared.calls.Answer.{Answer}
 use Rattle.uw_model.specs.declared.calls.Answer.TheVariants as answers
 use Rattle.uw_model.specs.Entries.{IsCacheConf}
-use Rattle.uw_model.specs.Calls.{answer, next_state}
+use Rattle.uw_model.specs.Calls.{answer, is_no_number, next_state, number_at}
 use Rattle.uw_model.specs.Layout.{plan_room}
 use Rattle.uw_model.specs.Placement.{alive_of}
 use Rattle.uw_words.specs.declared.shape.Shape.{Shape}
@@ -63,3 +63,7 @@ PlansFor conf words plan now call = (list : List Entry) → Agrees conf words li
 -- the answer told is that of each list with which the region agrees
 abbrev pub TellsOf : CacheConf → List ℕ → Plan → ℕ → Call → PlanAnswer → Type 0
 TellsOf conf words plan now call told = (list : List Entry) → Agrees conf words list → Tells conf words plan now told (answer conf list now call)
+
+-- the number of an alive entry, 0 where there is none, or none where its value is none of a number
+abbrev pub IsNumberAt : Option Entry → Option ℤ → Type 0
+IsNumberAt alive number = MatchOption number (is_no_number alive ≡ true) (λ n. (is_no_number alive ≡ false) × (n ≡ number_at alive))
