@@ -18,3 +18,4 @@ pub mod Counting
 pub mod Planned
 pub mod Losing
 pub mod Looking
+pub mod Running

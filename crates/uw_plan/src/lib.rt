@@ -8,9 +8,11 @@ pub mod laws;
 mod lookup;
 mod plan;
 mod region;
+mod room;
 
 pub use blank::blank_region;
 pub use entries::{add_entry, drop_entry};
 pub use plan::PlanAnswer;
 pub use region::{frame_of, shape_of};
+pub use room::free_run;
 pub use uw_model::words_of;
