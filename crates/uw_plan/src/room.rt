@@ -20,9 +20,11 @@ pub fn free_run(ram: &Ram, conf: &CacheConf, over: &Overlay, n: u64) -> Option<u
     requires region { length ram.now ≡ words_of conf.now }
     requires some { HasEntries (seen over.now ram.now) conf.now }
     requires n { 1 ≤ n }
-    ensures fits { (items : List ℕ) (list : List Entry) → AgreesAs (seen over.now ram.now) (shape_of conf.now) conf.now items list
+    ensures fits { (items : List ℕ) (list : List Entry)
+        → AgreesAs (seen over.now ram.now) (shape_of conf.now) conf.now items list
         → is_some result ≡ fits conf.now list n }
-    ensures run { (items : List ℕ) (list : List Entry) → AgreesAs (seen over.now ram.now) (shape_of conf.now) conf.now items list
+    ensures run { (items : List ℕ) (list : List Entry)
+        → AgreesAs (seen over.now ram.now) (shape_of conf.now) conf.now items list
         → IfSome result (λ first. first_run conf.now list n ≡ Some first) }
 {
     let shape = shape_of(conf);
