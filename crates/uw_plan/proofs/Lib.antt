@@ -19,3 +19,7 @@ pub mod Planned
 pub mod Losing
 pub mod Looking
 pub mod Running
+pub mod OneByOne
+pub mod Walking
+pub mod Sweeping
+pub mod Purging

@@ -7,12 +7,14 @@ mod entries;
 pub mod laws;
 mod lookup;
 mod plan;
+mod policies;
 mod region;
 mod room;
 
 pub use blank::blank_region;
 pub use entries::{add_entry, drop_entry};
 pub use plan::PlanAnswer;
+pub use policies::{clear, purge, sweep};
 pub use region::{frame_of, shape_of};
 pub use room::free_run;
 pub use uw_model::words_of;

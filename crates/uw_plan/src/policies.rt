@@ -1,0 +1,99 @@
+// Room is made: entries that are dead, or the least recent ones, or all of them leave the list.
+ghost use Rattle.std.specs.Prelude.{◌≡◌, ◌≤◌, ℕ, List, [], None, Some, MatchOption, false, not};
+ghost use Rattle.std.specs.Prelude.{filter, length};
+ghost use Rattle.uw_model.specs.declared.entries.Entry.{Entry};
+ghost use Rattle.uw_model.specs.Entries.{IsCacheConf};
+ghost use Rattle.uw_model.specs.Layout.{words_of};
+ghost use Rattle.uw_model.specs.Placement.{alive_of, first_run, fits, is_alive, longest_front};
+ghost use Rattle.uw_words.specs.Parts.{seen};
+ghost use Rattle.uw_plan.specs.Agreement.{AgreesAs};
+ghost use Rattle.uw_plan.specs.CallSteps.{HasEntries, HasSpareFor, Leaves};
+ghost use Rattle.uw_plan.specs.Regions.{shape_of};
+
+use crate::entries::drop_entry;
+use crate::region::shape_of;
+use crate::room::free_run;
+use uw_items::fields_of;
+use uw_model::{CacheConf, is_alive_until};
+use uw_recency::{last, newest, older};
+use uw_words::{Overlay, Ram};
+
+/// Plans that the entries that are not alive at a moment leave the list, and counts them. Takes no memory.
+pub fn sweep(ram: &Ram, conf: &CacheConf, over: &mut Overlay, moment: u64) -> u64
+    requires conf { IsCacheConf conf.now }
+    requires region { length ram.now ≡ words_of conf.now }
+    requires some { HasEntries (seen over.old ram.now) conf.now }
+    requires room { (items : List ℕ) (list : List Entry)
+        → AgreesAs (seen over.old ram.now) (shape_of conf.now) conf.now items list
+        → HasSpareFor conf.now list 0 over.old }
+    ensures list { (items : List ℕ) (list : List Entry)
+        → AgreesAs (seen over.old ram.now) (shape_of conf.now) conf.now items list
+        → Leaves conf.now ram.now over.old over.new list (alive_of conf.now moment list) }
+    ensures count { (items : List ℕ) (list : List Entry)
+        → AgreesAs (seen over.old ram.now) (shape_of conf.now) conf.now items list
+        → result ≡ length (filter (λ e. not (is_alive conf.now moment e)) list) }
+{
+    let shape = shape_of(conf);
+    let mut next = newest(ram, over, &shape);
+    let mut gone = 0;
+    for _ in 0..shape.n_items {
+        let Some(item) = next else {
+            return gone;
+        };
+        next = older(ram, over, &shape, item);
+        if is_alive_until(conf, moment, fields_of(ram, over, &shape, item).dies) {
+            continue;
+        }
+        drop_entry(ram, conf, over, item);
+        gone += 1;
+    }
+    gone
+}
+
+/// Plans that all entries leave the list. Takes no memory.
+pub fn clear(ram: &Ram, conf: &CacheConf, over: &mut Overlay)
+    requires conf { IsCacheConf conf.now }
+    requires region { length ram.now ≡ words_of conf.now }
+    requires some { HasEntries (seen over.old ram.now) conf.now }
+    requires room { (items : List ℕ) (list : List Entry)
+        → AgreesAs (seen over.old ram.now) (shape_of conf.now) conf.now items list
+        → HasSpareFor conf.now list 0 over.old }
+    ensures list { (items : List ℕ) (list : List Entry)
+        → AgreesAs (seen over.old ram.now) (shape_of conf.now) conf.now items list
+        → Leaves conf.now ram.now over.old over.new list [] }
+{
+    let shape = shape_of(conf);
+    while let Some(item) = newest(ram, over, &shape) {
+        drop_entry(ram, conf, over, item);
+    }
+}
+
+/// Plans that the least recent entries leave the list, one after the other, until there is room for one more entry of n
+/// blocks, and gives the first run of so many. None where there is none in the empty list either. Takes no memory.
+pub fn purge(ram: &Ram, conf: &CacheConf, over: &mut Overlay, n: u64) -> Option<u64>
+    requires conf { IsCacheConf conf.now }
+    requires region { length ram.now ≡ words_of conf.now }
+    requires some { HasEntries (seen over.old ram.now) conf.now }
+    requires n { 1 ≤ n }
+    requires room { (items : List ℕ) (list : List Entry)
+        → AgreesAs (seen over.old ram.now) (shape_of conf.now) conf.now items list
+        → HasSpareFor conf.now list 0 over.old }
+    requires none { (items : List ℕ) (list : List Entry)
+        → AgreesAs (seen over.old ram.now) (shape_of conf.now) conf.now items list
+        → fits conf.now list n ≡ false }
+    ensures { (items : List ℕ) (list : List Entry)
+        → AgreesAs (seen over.old ram.now) (shape_of conf.now) conf.now items list
+        → MatchOption result
+        ((longest_front conf.now list n (length list) ≡ None) × Leaves conf.now ram.now over.old over.new list [])
+        (λ first. (kept : List Entry) × ((longest_front conf.now list n (length list) ≡ Some kept)
+        × (first_run conf.now kept n ≡ Some first) × Leaves conf.now ram.now over.old over.new list kept)) }
+{
+    let shape = shape_of(conf);
+    while let Some(item) = last(ram, over, &shape) {
+        drop_entry(ram, conf, over, item);
+        if let Some(first) = free_run(ram, conf, over, n) {
+            return Some(first);
+        }
+    }
+    None
+}
