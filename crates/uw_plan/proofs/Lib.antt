@@ -23,3 +23,4 @@ pub mod OneByOne
 pub mod Walking
 pub mod Sweeping
 pub mod Purging
+pub mod Roomy

@@ -9,3 +9,4 @@ pub mod Plans
 pub mod EntrySteps
 pub mod CallSteps
 pub mod CallPlans
+pub mod PolicySteps
