@@ -14,11 +14,9 @@ use Rattle.uw_model.proofs.StateLemmas.{lacks_apart}
 use Rattle.uw_words.specs.declared.shape.Shape.{Shape}
 use Rattle.uw_words.specs.Plans.{Plan}
 use Rattle.uw_words.specs.Parts.{seen}
-use Rattle.uw_words.specs.Numbers.{AreDistinct, IsOneOf, without_number}
+use Rattle.uw_words.specs.Numbers.{AreDistinct, without_number}
 use Rattle.uw_words.specs.Walks.{item_word}
-use Rattle.uw_words.proofs.Links.{walk_short}
 use Rattle.uw_bitmap.specs.Bits.{run_places}
-use Rattle.uw_recency.specs.Recency.{HasRecency, IsRecency, IsRecent}
 use Rattle.uw_plan.specs.Regions.{shape_of}
 use Rattle.uw_plan.specs.Agreement.{AgreesAs}
 use Rattle.uw_plan.specs.Plans.{Costs, HasRoomFor, IsInUse, IsPaired, item_run_places}

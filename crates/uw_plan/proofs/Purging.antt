@@ -1,6 +1,6 @@
 -- The least recent entries leave the list, one after the other.
-use Rattle.std.proofs.Common.{◌≡◌, ℕ, suc, ◌+◌, ◌-◌, ◌≤◌, false, true, List, [], ◌∷◌, ◌++◌, Option, Some, None, append-nil, append_assoc, length, take, refl, sym, ap, ◌∙◌, subst, arith}
-use Rattle.std.proofs.lemmas.List.{length-append, take-append-le, take_all}
+use Rattle.std.proofs.Common.{◌≡◌, ℕ, ◌+◌, ◌-◌, false, true, List, [], ◌∷◌, ◌++◌, Some, None, append-nil, append_assoc, length, take, refl, sym, ap, ◌∙◌, subst, arith}
+use Rattle.std.proofs.lemmas.List.{length-append}
 use Rattle.uw_model.specs.declared.conf.CacheConf.{CacheConf}
 use Rattle.uw_model.specs.declared.entries.Entry.{Entry}
 use Rattle.uw_model.specs.Entries.{AreApart, IsCacheConf}
@@ -44,9 +44,10 @@ module _ (conf : CacheConf) (is : IsCacheConf conf) (words : List ℕ) (n : ℕ)
   -- where nothing is left, no front has room
   pub purged_all : (now : Plan) (kept : List Entry) → Purged conf words n before now list kept → kept ≡ [] → (longest_front conf list n (length list) ≡ None) × Leaves conf words before now list []
   purged_all now kept purged none =
-      let some_full : fits conf (take 0 list) n ≡ false = ap (λ (l : List Entry). fits conf l n) (sym none) ∙ purged.full in
-      (purged.longest ∙ ap (λ (l : List Entry). longest_front conf list n (length l)) none ∙ no_front conf list n 0 some_full refl,
-      subst (λ (l : List Entry). Leaves conf words before now list l) none purged.leaves)
+      let some_full : fits conf (take 0 list) n ≡ false = ap (λ (l : List Entry). fits conf l n) (sym none) ∙ purged.full in (
+        purged.longest ∙ ap (λ (l : List Entry). longest_front conf list n (length l)) none ∙ no_front conf list n 0 some_full refl,
+        subst (λ (l : List Entry). Leaves conf words before now list l) none purged.leaves,
+      )
 
   -- the last one leaves
   module _ (mid : Plan) (kept : List Entry) (purged : Purged conf words n before mid list kept) (item : ℕ) (last : IsLastEntry purged.leaves.items kept item) (now : Plan)

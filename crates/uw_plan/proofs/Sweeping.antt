@@ -1,5 +1,5 @@
 -- The entries that are dead leave the list, from the most recent one on.
-use Rattle.std.proofs.Common.{◌≡◌, ◌≢◌, ℕ, suc, ◌+◌, ◌<◌, ◌≤◌, Bool, true, false, not, List, [], ◌∷◌, ◌++◌, Option, Some, None, append-nil, append_assoc, filter, length, slice_get, refl, sym, ap, ◌∙◌, subst, arith}
+use Rattle.std.proofs.Common.{◌≡◌, ℕ, suc, ◌+◌, ◌≤◌, true, false, not, List, [], ◌∷◌, ◌++◌, Option, Some, None, append-nil, append_assoc, filter, length, slice_get, refl, sym, ap, ◌∙◌, subst, arith}
 use Rattle.std.proofs.lemmas.List.{length-append}
 use Rattle.std.proofs.lemmas.List.Elements.{filter-append}
 use Rattle.uw_model.specs.declared.conf.CacheConf.{CacheConf}
@@ -11,10 +11,10 @@ use Rattle.uw_model.proofs.PartLemmas.{part_filter, part_length}
 use Rattle.uw_words.specs.declared.shape.Shape.{Shape}
 use Rattle.uw_words.specs.Plans.{Plan}
 use Rattle.uw_words.specs.Parts.{seen}
-use Rattle.uw_words.specs.Numbers.{IsOneOf, without_number}
+use Rattle.uw_words.specs.Numbers.{without_number}
 use Rattle.uw_items.specs.declared.records.Fields.{Fields}
 use Rattle.uw_items.specs.Items.{HoldsFields}
-use Rattle.uw_recency.specs.Recency.{IsRecency, next_of}
+use Rattle.uw_recency.specs.Recency.{next_of}
 use Rattle.uw_plan.specs.Regions.{shape_of}
 use Rattle.uw_plan.specs.Agreement.{AgreesAs}
 use Rattle.uw_plan.specs.Plans.{Costs, IsPaired, item_run_places}
@@ -22,7 +22,7 @@ use Rattle.uw_plan.specs.CallSteps.{LeaveOneByOne, Leaves}
 use Rattle.uw_plan.proofs.Parted.{paired_holds}
 use Rattle.uw_plan.proofs.Counting.{costs_none}
 use Rattle.uw_plan.proofs.OneByOne.{distinct_items, leaves_more, without_midst}
-use Rattle.uw_plan.proofs.Walking.{IsEntryAt, entry_at_place, left_at, next_at, none_at_place, recency_then}
+use Rattle.uw_plan.proofs.Walking.{IsEntryAt, entry_at_place, left_at, next_at, none_at_place}
 
 -- the entries that are dead at a moment
 abbrev pub dead_of : CacheConf → ℕ → List Entry → List Entry

@@ -1,5 +1,6 @@
 // Room is made: entries that are dead, or the least recent ones, or all of them leave the list.
-ghost use Rattle.std.specs.Prelude.{◌≡◌, ◌&&◌, ◌≤◌, ℕ, List, [], None, Some, MatchOption, IfSome, false, true, filter, is_some, length, not, unwrap_or};
+ghost use Rattle.std.specs.Prelude.{◌≡◌, ◌≤◌, ◌&&◌, ℕ, List, [], None, Some, IfSome, MatchOption, false, true, not};
+ghost use Rattle.std.specs.Prelude.{filter, is_some, length, unwrap_or};
 ghost use Rattle.uw_model.specs.declared.entries.Entry.{Entry};
 ghost use Rattle.uw_model.specs.Entries.{IsCacheConf};
 ghost use Rattle.uw_model.specs.Layout.{words_of};
@@ -23,11 +24,14 @@ pub fn sweep(ram: &Ram, conf: &CacheConf, over: &mut Overlay, moment: u64) -> u6
     requires conf { IsCacheConf conf.now }
     requires region { length ram.now ≡ words_of conf.now }
     requires some { HasEntries (seen over.old ram.now) conf.now }
-    requires room { (items : List ℕ) (list : List Entry) → AgreesAs (seen over.old ram.now) (shape_of conf.now) conf.now items list
+    requires room { (items : List ℕ) (list : List Entry)
+        → AgreesAs (seen over.old ram.now) (shape_of conf.now) conf.now items list
         → HasSpareFor conf.now list 0 over.old }
-    ensures list { (items : List ℕ) (list : List Entry) → AgreesAs (seen over.old ram.now) (shape_of conf.now) conf.now items list
+    ensures list { (items : List ℕ) (list : List Entry)
+        → AgreesAs (seen over.old ram.now) (shape_of conf.now) conf.now items list
         → Leaves conf.now ram.now over.old over.new list (alive_of conf.now moment list) }
-    ensures count { (items : List ℕ) (list : List Entry) → AgreesAs (seen over.old ram.now) (shape_of conf.now) conf.now items list
+    ensures count { (items : List ℕ) (list : List Entry)
+        → AgreesAs (seen over.old ram.now) (shape_of conf.now) conf.now items list
         → result ≡ length (filter (λ e. not (is_alive conf.now moment e)) list) }
 {
     let shape = shape_of(conf);
@@ -52,9 +56,11 @@ pub fn clear(ram: &Ram, conf: &CacheConf, over: &mut Overlay)
     requires conf { IsCacheConf conf.now }
     requires region { length ram.now ≡ words_of conf.now }
     requires some { HasEntries (seen over.old ram.now) conf.now }
-    requires room { (items : List ℕ) (list : List Entry) → AgreesAs (seen over.old ram.now) (shape_of conf.now) conf.now items list
+    requires room { (items : List ℕ) (list : List Entry)
+        → AgreesAs (seen over.old ram.now) (shape_of conf.now) conf.now items list
         → HasSpareFor conf.now list 0 over.old }
-    ensures list { (items : List ℕ) (list : List Entry) → AgreesAs (seen over.old ram.now) (shape_of conf.now) conf.now items list
+    ensures list { (items : List ℕ) (list : List Entry)
+        → AgreesAs (seen over.old ram.now) (shape_of conf.now) conf.now items list
         → Leaves conf.now ram.now over.old over.new list [] }
 {
     let shape = shape_of(conf);
@@ -70,11 +76,14 @@ pub fn purge(ram: &Ram, conf: &CacheConf, over: &mut Overlay, n: u64) -> Option<
     requires region { length ram.now ≡ words_of conf.now }
     requires some { HasEntries (seen over.old ram.now) conf.now }
     requires n { 1 ≤ n }
-    requires room { (items : List ℕ) (list : List Entry) → AgreesAs (seen over.old ram.now) (shape_of conf.now) conf.now items list
+    requires room { (items : List ℕ) (list : List Entry)
+        → AgreesAs (seen over.old ram.now) (shape_of conf.now) conf.now items list
         → HasSpareFor conf.now list 0 over.old }
-    requires none { (items : List ℕ) (list : List Entry) → AgreesAs (seen over.old ram.now) (shape_of conf.now) conf.now items list
+    requires none { (items : List ℕ) (list : List Entry)
+        → AgreesAs (seen over.old ram.now) (shape_of conf.now) conf.now items list
         → fits conf.now list n ≡ false }
-    ensures { (items : List ℕ) (list : List Entry) → AgreesAs (seen over.old ram.now) (shape_of conf.now) conf.now items list
+    ensures { (items : List ℕ) (list : List Entry)
+        → AgreesAs (seen over.old ram.now) (shape_of conf.now) conf.now items list
         → MatchOption result
         ((longest_front conf.now list n (length list) ≡ None) × Leaves conf.now ram.now over.old over.new list [])
         (λ first. (kept : List Entry) × ((longest_front conf.now list n (length list) ≡ Some kept)
@@ -90,19 +99,24 @@ pub fn purge(ram: &Ram, conf: &CacheConf, over: &mut Overlay, n: u64) -> Option<
     None
 }
 
-// Sweeps where that is a policy, and gives the first run of n blocks where there is then room for one more entry of them.
+// Sweeps where that is a policy, and gives the first run of n blocks where there is then room for one more entry of
+// them. Where it is none it answers None.
 fn run_swept(ram: &Ram, conf: &CacheConf, over: &mut Overlay, moment: u64, n: u64) -> Option<u64>
     requires conf { IsCacheConf conf.now }
     requires region { length ram.now ≡ words_of conf.now }
     requires some { HasEntries (seen over.old ram.now) conf.now }
     requires n { 1 ≤ n }
-    requires room { (items : List ℕ) (list : List Entry) → AgreesAs (seen over.old ram.now) (shape_of conf.now) conf.now items list
+    requires room { (items : List ℕ) (list : List Entry)
+        → AgreesAs (seen over.old ram.now) (shape_of conf.now) conf.now items list
         → HasSpareFor conf.now list 0 over.old }
-    ensures list { (items : List ℕ) (list : List Entry) → AgreesAs (seen over.old ram.now) (shape_of conf.now) conf.now items list
+    ensures list { (items : List ℕ) (list : List Entry)
+        → AgreesAs (seen over.old ram.now) (shape_of conf.now) conf.now items list
         → Leaves conf.now ram.now over.old over.new list (swept_where_set conf.now moment list) }
-    ensures fits { (items : List ℕ) (list : List Entry) → AgreesAs (seen over.old ram.now) (shape_of conf.now) conf.now items list
+    ensures fits { (items : List ℕ) (list : List Entry)
+        → AgreesAs (seen over.old ram.now) (shape_of conf.now) conf.now items list
         → is_some result ≡ (conf.now.sweep_on_full && fits conf.now (alive_of conf.now moment list) n) }
-    ensures run { (items : List ℕ) (list : List Entry) → AgreesAs (seen over.old ram.now) (shape_of conf.now) conf.now items list
+    ensures run { (items : List ℕ) (list : List Entry)
+        → AgreesAs (seen over.old ram.now) (shape_of conf.now) conf.now items list
         → IfSome result (λ first. first_run conf.now (alive_of conf.now moment list) n ≡ Some first) }
 {
     if !conf.sweep_on_full {
@@ -112,17 +126,21 @@ fn run_swept(ram: &Ram, conf: &CacheConf, over: &mut Overlay, moment: u64, n: u6
     free_run(ram, conf, over, n)
 }
 
-// Purges where that is a policy, and gives the first run of n blocks where there is then room for one more entry of them.
+// Purges where that is a policy, and gives the first run of n blocks where there is then room for one more entry of
+// them. Where it is none it answers None.
 fn run_purged(ram: &Ram, conf: &CacheConf, over: &mut Overlay, n: u64) -> Option<u64>
     requires conf { IsCacheConf conf.now }
     requires region { length ram.now ≡ words_of conf.now }
     requires some { HasEntries (seen over.old ram.now) conf.now }
     requires n { 1 ≤ n }
-    requires room { (items : List ℕ) (list : List Entry) → AgreesAs (seen over.old ram.now) (shape_of conf.now) conf.now items list
+    requires room { (items : List ℕ) (list : List Entry)
+        → AgreesAs (seen over.old ram.now) (shape_of conf.now) conf.now items list
         → HasSpareFor conf.now list 0 over.old }
-    requires none { (items : List ℕ) (list : List Entry) → AgreesAs (seen over.old ram.now) (shape_of conf.now) conf.now items list
+    requires none { (items : List ℕ) (list : List Entry)
+        → AgreesAs (seen over.old ram.now) (shape_of conf.now) conf.now items list
         → fits conf.now list n ≡ false }
-    ensures { (items : List ℕ) (list : List Entry) → AgreesAs (seen over.old ram.now) (shape_of conf.now) conf.now items list
+    ensures { (items : List ℕ) (list : List Entry)
+        → AgreesAs (seen over.old ram.now) (shape_of conf.now) conf.now items list
         → MatchOption result
         (((conf.now.purge_lru && is_some (longest_front conf.now list n (length list))) ≡ false)
         × ((kept : List Entry) × Leaves conf.now ram.now over.old over.new list kept))
@@ -136,16 +154,19 @@ fn run_purged(ram: &Ram, conf: &CacheConf, over: &mut Overlay, n: u64) -> Option
     purge(ram, conf, over, n)
 }
 
-// Clears where that is a policy, and gives the first run of n blocks in the empty list, 0 where it has none.
+// Clears where that is a policy, and gives the first run of n blocks in the empty list, 0 where it has none. Where it
+// is none it answers None.
 fn run_cleared(ram: &Ram, conf: &CacheConf, over: &mut Overlay, n: u64) -> Option<u64>
     requires conf { IsCacheConf conf.now }
     requires region { length ram.now ≡ words_of conf.now }
     requires some { HasEntries (seen over.old ram.now) conf.now }
     requires n { 1 ≤ n }
-    requires room { (items : List ℕ) (list : List Entry) → AgreesAs (seen over.old ram.now) (shape_of conf.now) conf.now items list
+    requires room { (items : List ℕ) (list : List Entry)
+        → AgreesAs (seen over.old ram.now) (shape_of conf.now) conf.now items list
         → HasSpareFor conf.now list 0 over.old }
     ensures room { over.new.room ≡ over.old.room }
-    ensures list { (items : List ℕ) (list : List Entry) → AgreesAs (seen over.old ram.now) (shape_of conf.now) conf.now items list
+    ensures list { (items : List ℕ) (list : List Entry)
+        → AgreesAs (seen over.old ram.now) (shape_of conf.now) conf.now items list
         → MatchOption result (conf.now.clear_on_full ≡ false)
         (λ first. (conf.now.clear_on_full ≡ true) × (unwrap_or (first_run conf.now [] n) 0 ≡ first)
         × Leaves conf.now ram.now over.old over.new list []) }
@@ -157,17 +178,26 @@ fn run_cleared(ram: &Ram, conf: &CacheConf, over: &mut Overlay, n: u64) -> Optio
     Some(free_run(ram, conf, over, n).unwrap_or(0))
 }
 
-/// Makes room for one more entry of n blocks, by the policies that are set, and gives the first run of n blocks in the list
-/// that is left, 0 where it was emptied and has none. Where no policy makes room it answers None. Takes no memory.
-pub fn make_room(ram: &Ram, conf: &CacheConf, over: &mut Overlay, moment: u64, n: u64) -> Option<u64>
+/// Makes room for one more entry of n blocks, by the policies that are set, and gives the first run of n blocks in the
+/// list that is left, 0 where it was emptied and has none. Where no policy makes room it answers None, and what was
+/// planned is of no use. Takes no memory.
+pub fn make_room(
+    ram: &Ram,
+    conf: &CacheConf,
+    over: &mut Overlay,
+    moment: u64,
+    n: u64,
+) -> Option<u64>
     requires conf { IsCacheConf conf.now }
     requires region { length ram.now ≡ words_of conf.now }
     requires some { HasEntries (seen over.old ram.now) conf.now }
     requires n { 1 ≤ n }
-    requires room { (items : List ℕ) (list : List Entry) → AgreesAs (seen over.old ram.now) (shape_of conf.now) conf.now items list
+    requires room { (items : List ℕ) (list : List Entry)
+        → AgreesAs (seen over.old ram.now) (shape_of conf.now) conf.now items list
         → HasSpareFor conf.now list 0 over.old }
     ensures room { over.new.room ≡ over.old.room }
-    ensures list { (items : List ℕ) (list : List Entry) → AgreesAs (seen over.old ram.now) (shape_of conf.now) conf.now items list
+    ensures list { (items : List ℕ) (list : List Entry)
+        → AgreesAs (seen over.old ram.now) (shape_of conf.now) conf.now items list
         → MatchOption result (room conf.now list n moment ≡ None)
         (λ first. (kept : List Entry) × ((room conf.now list n moment ≡ Some kept)
         × (unwrap_or (first_run conf.now kept n) 0 ≡ first) × Leaves conf.now ram.now over.old over.new list kept)) }
