@@ -38,7 +38,7 @@ pub leave_then : (list gone mid more kept : List Entry) → LeaveOneByOne list g
 leave_then list [] mid more kept first second = subst (λ (l : List Entry). LeaveOneByOne l more kept) (sym first) second
 leave_then list (e ∷ gone) mid more kept first second = (first.0, leave_then (without e.key list) gone mid more kept first.1 second)
 
-runs_then : (conf : CacheConf) (gone more : List Entry) → runs_of conf gone ++ runs_of conf more ≡ runs_of conf (gone ++ more)
+pub runs_then : (conf : CacheConf) (gone more : List Entry) → runs_of conf gone ++ runs_of conf more ≡ runs_of conf (gone ++ more)
 runs_then conf [] more = refl
 runs_then conf (e ∷ gone) more =
     append_assoc (run_places (shape_of conf) e.first (span conf e.value)) (runs_of conf gone) (runs_of conf more)

@@ -1,6 +1,7 @@
 -- An entry is written in front of the list, in room that is made for it.
 use Rattle.std.proofs.Common.{◌≡◌, ◌≢◌, ◌⊎◌, inl, inr, ℕ, suc, ◌+◌, ◌*◌, ◌<◌, ◌≤◌, Bool, true, false, cond, not, List, [], ◌∷◌, ◌++◌, find, length, Option, None, Some, unwrap_or, refl, sym, ap, ◌∙◌, subst, arith}
 use Rattle.std.proofs.lemmas.Bool.{and_from, cases_Bool, cond-false, not_from_false}
+use Rattle.std.proofs.lemmas.List.{append-nil}
 use Rattle.std.proofs.lemmas.Slice.Eq.{bytes_eq-Decides}
 use Rattle.std.specs.Str.{bytes_eq}
 use Rattle.uw_model.specs.declared.conf.CacheConf.{CacheConf}
@@ -18,16 +19,19 @@ use Rattle.uw_words.specs.Shapes.{IsShape}
 use Rattle.uw_words.specs.Plans.{Plan}
 use Rattle.uw_words.specs.Numbers.{without_number}
 use Rattle.uw_words.specs.Parts.{seen}
+use Rattle.uw_words.specs.Texts.{text_words}
+use Rattle.uw_bitmap.specs.Bits.{run_places}
 use Rattle.uw_recency.proofs.Lists.{one_list}
 use Rattle.uw_plan.specs.Regions.{shape_of}
 use Rattle.uw_plan.specs.Parts.{HoldEntries}
 use Rattle.uw_plan.specs.Agreement.{AgreesAs}
 use Rattle.uw_plan.specs.Bounds.{runs_of}
 use Rattle.uw_plan.specs.Plans.{Costs, HasRoomFor, IsInUse, IsPaired, item_run_places}
-use Rattle.uw_plan.specs.CallSteps.{HasEntries, HasSpare, HasSpareFor, IsItemOf, Leaves, entry_at}
+use Rattle.uw_plan.specs.CallSteps.{Enters, HasSpare, HasSpareFor, IsItemOf, Leaves, entry_at}
 use Rattle.uw_plan.proofs.Agreeing.{entries_once}
-use Rattle.uw_plan.proofs.Counting.{spare_after, spare_less}
-use Rattle.uw_plan.proofs.OneByOne.{left_length, leaves_none, leaves_one, room_for_one}
+use Rattle.uw_plan.proofs.Shapes.{shape_of_conf}
+use Rattle.uw_plan.proofs.Counting.{costs_then, room_of_spare, spare_after, spare_less}
+use Rattle.uw_plan.proofs.OneByOne.{left_length, leaves_none, leaves_one, leaves_then, room_for_one, runs_then}
 
 -- a reader's words agree with one list at most
 pub agreed_once : (reader : ℕ → ℕ) (shape : Shape) → IsShape shape → (conf : CacheConf) (items others : List ℕ) (list other : List Entry) → AgreesAs reader shape conf items list
@@ -115,3 +119,70 @@ entered_state conf list kept now key value dies is good short state some =
     ∙ ap (placed conf list now key value (dies_at now 0) answers.Done) some in
     let next : next_state conf list now (calls.Update key value 0) ≡ new_entry key value 0 first now ∷ kept = ap (λ (o : Outcome). o.list) all in
     state_at conf key value 0 dies first now kept (subst (IsState conf) next (next_is_state conf list now (calls.Update key value 0) is state))
+
+-- room was made for so many blocks in a list
+abbrev pub HasMade : CacheConf → List ℕ → (before now : Plan) → List Entry → (moment first n : ℕ) → Type 0
+HasMade conf words before now list moment first n =
+    (kept : List Entry) × ((room conf list n moment ≡ Some kept) × (unwrap_or (first_run conf kept n) 0 ≡ first) × Leaves conf words before now list kept)
+
+-- the entry of the key has left, room is made, and the new entry comes in front
+module _ (conf : CacheConf) (is : IsCacheConf conf) (words : List ℕ) (before mid : Plan) (items : List ℕ) (list : List Entry)
+    (agrees : AgreesAs (seen before words) (shape_of conf) conf items list) (key value : List ℕ) (dies moment : ℕ)
+    (removed : Leaves conf words before mid list (without key list))
+    (spare : HasSpareFor conf list (32 + text_words (length key) + text_words (length value)) before) where
+  abbrev most : ℕ
+  most = 32 + text_words (length key) + text_words (length value)
+
+  abbrev n : ℕ
+  n = span conf value
+
+  mid_spare : HasSpareFor conf (without key list) most mid
+  mid_spare = spare_kept conf is words most before mid items list (without key list) agrees removed spare
+
+  pub mid_room : (others : List ℕ) (other : List Entry) → AgreesAs (seen mid words) (shape_of conf) conf others other → HasSpareFor conf other 0 mid
+  mid_room others other held =
+      let same : without key list ≡ other =
+      agreed_once (seen mid words) (shape_of conf) (shape_of_conf conf is).is conf removed.items others (without key list) other removed.agrees held in
+      subst (λ (l : List Entry). HasSpareFor conf l 0 mid) same (spare_alone conf is words (without key list) most mid mid_spare)
+
+  module _ (good : is_bad_key conf key ≡ false) (short : is_too_long conf value ≡ false) (now : Plan) (first : ℕ)
+      (made : HasMade conf words mid now (without key list) moment first n) where
+    abbrev pub kept : List Entry
+    kept = made.0
+
+    first_is : unwrap_or (first_run conf kept n) 0 ≡ first
+    first_is = made.1.1
+
+    abbrev pub leaves : Leaves conf words mid now (without key list) kept
+    leaves = made.1.2
+
+    abbrev pub entry : Entry
+    entry = new_entry key value dies first moment
+
+    pub put_state : IsState conf (entry ∷ kept)
+    put_state =
+        subst (λ (f : ℕ). IsState conf (new_entry key value dies f moment ∷ kept)) first_is
+        (entered_state conf list kept moment key value dies is good short agrees.fits.state made.1.0)
+
+    left : Leaves conf words before now list kept
+    left = leaves_then conf is words before mid now list (without key list) kept removed leaves
+
+    pub put_room : HasRoomFor now most (run_places (shape_of conf) first n)
+    put_room =
+        let after : HasSpareFor conf kept most now = spare_kept conf is words most mid now removed.items (without key list) kept removed.agrees leaves mid_spare in
+        room_of_spare (shape_of conf) (shape_of_conf conf is).is most first n now put_state.apart.0.blocks
+        (spare_less (shape_of conf) most (16 * length kept + most) now (omega arith) after)
+
+    module _ (done : Plan) (item : ℕ) (added : AgreesAs (seen done words) (shape_of conf) conf (item ∷ leaves.items) (entry ∷ kept))
+        (costs : Costs (shape_of conf) most (run_places (shape_of conf) first n) now done) where
+      all_costs : Costs (shape_of conf) (16 * length left.gone + most) (runs_of conf (left.gone ++ entry ∷ [])) before done
+      all_costs =
+          let own : run_places (shape_of conf) first n ≡ runs_of conf (entry ∷ []) = sym (append-nil (run_places (shape_of conf) first n)) in
+          subst (λ (run : List ℕ). Costs (shape_of conf) (16 * length left.gone + most) run before done)
+          (ap (λ (run : List ℕ). runs_of conf left.gone ++ run) own ∙ runs_then conf left.gone (entry ∷ []))
+          (costs_then (shape_of conf) (16 * length left.gone) most (runs_of conf left.gone) (run_places (shape_of conf) first n) before now done left.costs costs)
+
+      pub entered : Enters conf words before done list (new_entry key value dies (unwrap_or (first_run conf kept n) 0) moment) kept
+      entered =
+          subst (λ (f : ℕ). Enters conf words before done list (new_entry key value dies f moment) kept) (sym first_is)
+          record { gone = left.gone; items = item ∷ leaves.items; leave = left.leave; agrees = added; costs = all_costs }
