@@ -45,7 +45,7 @@ one_left (first ∷ numbers) number other one apart = elim (cases_eq first numbe
       (⊎_elim (λ here. inl here) (λ later. inr (one_left numbers number other later apart)) one)
 ]
 
-none_but : (numbers : List ℕ) (number other : ℕ) → IsNoneOf (without_number numbers number) other → other ≢ number → IsNoneOf numbers other
+pub none_but : (numbers : List ℕ) (number other : ℕ) → IsNoneOf (without_number numbers number) other → other ≢ number → IsNoneOf numbers other
 none_but [] number other none apart = tt
 none_but (first ∷ numbers) number other none apart = elim (cases_eq first number) [
   | inl same ↦ (

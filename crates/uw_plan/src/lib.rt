@@ -8,9 +8,11 @@ pub mod laws;
 mod lookup;
 mod plan;
 mod policies;
+mod put;
+mod reads;
 mod region;
+mod removes;
 mod room;
-mod writes;
 
 pub use blank::blank_region;
 pub use entries::{add_entry, drop_entry};

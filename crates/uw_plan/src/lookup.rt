@@ -1,14 +1,14 @@
-// An item is found by its key, and what it holds is read.
-ghost use Rattle.std.specs.Prelude.{◌≡◌, ◌==◌, ◌≤◌, ◌+◌, ◌∷◌, ℕ, List, [], None, Some, length, if◌then◌else◌};
+// An item is found by its key, and an entry is used.
+ghost use Rattle.std.specs.Prelude.{◌≡◌, ◌+◌, ◌≤◌, ◌==◌, ◌∷◌, ℕ, List, [], length, Some, None, if◌then◌else◌};
 ghost use Rattle.uw_model.specs.declared.entries.Entry.{Entry};
-ghost use Rattle.uw_model.specs.Calls.{alive_at, number_of, without};
 ghost use Rattle.uw_model.specs.Entries.{IsCacheConf};
+ghost use Rattle.uw_model.specs.Calls.{alive_at, number_of, without};
 ghost use Rattle.uw_model.specs.Layout.{words_of};
 ghost use Rattle.uw_words.specs.Numbers.{without_number};
 ghost use Rattle.uw_words.specs.Parts.{seen};
 ghost use Rattle.uw_plan.specs.Agreement.{AgreesAs};
-ghost use Rattle.uw_plan.specs.Plans.{Costs, IsInUse, IsPaired};
 ghost use Rattle.uw_plan.specs.CallSteps.{HasEntries, IsItemOf, entry_at};
+ghost use Rattle.uw_plan.specs.Plans.{Costs, IsInUse, IsPaired};
 ghost use Rattle.uw_plan.specs.Regions.{shape_of};
 
 use crate::region::shape_of;
@@ -23,7 +23,8 @@ pub fn item_of_key(ram: &Ram, conf: &CacheConf, over: &Overlay, key: &[u8]) -> O
     requires conf { IsCacheConf conf.now }
     requires region { length ram.now ≡ words_of conf.now }
     requires some { HasEntries (seen over.now ram.now) conf.now }
-    ensures { (items : List ℕ) (list : List Entry) → AgreesAs (seen over.now ram.now) (shape_of conf.now) conf.now items list
+    ensures { (items : List ℕ) (list : List Entry)
+        → AgreesAs (seen over.now ram.now) (shape_of conf.now) conf.now items list
         → IsItemOf items list (entry_at list key.now) result }
 {
     find(ram, over, &shape_of(conf), key)
@@ -40,17 +41,17 @@ pub fn alive_item(
     requires conf { IsCacheConf conf.now }
     requires region { length ram.now ≡ words_of conf.now }
     requires some { HasEntries (seen over.now ram.now) conf.now }
-    ensures { (items : List ℕ) (list : List Entry) → AgreesAs (seen over.now ram.now) (shape_of conf.now) conf.now items list
+    ensures { (items : List ℕ) (list : List Entry)
+        → AgreesAs (seen over.now ram.now) (shape_of conf.now) conf.now items list
         → IsItemOf items list (alive_at conf.now list moment key.now) result }
 {
-    let Some(item) = item_of_key(ram, conf, over, key) else {
-        return None;
-    };
+    let item = item_of_key(ram, conf, over, key)?;
     let fields = fields_of(ram, over, &shape_of(conf), item);
-    if !is_alive_until(conf, moment, fields.dies) {
-        return None;
+    if is_alive_until(conf, moment, fields.dies) {
+        Some(item)
+    } else {
+        None
     }
-    Some(item)
 }
 
 /// The number that the value of an item stands for, none where it is not one of eight bytes.
@@ -68,7 +69,7 @@ pub fn number_of_item(ram: &Ram, conf: &CacheConf, over: &Overlay, item: u64) ->
         return None;
     }
     let word = over.load(ram, shape.blocks + fields.first * shape.block_words);
-    Some(word as i64)
+    Some(word.cast_signed())
 }
 
 /// Plans that the entry of an item is used: it comes to the front of the list. At most six words are planned for it.
@@ -80,7 +81,8 @@ pub fn use_entry(ram: &Ram, conf: &CacheConf, over: &mut Overlay, item: u64)
     requires room { length over.old.writes + 6 ≤ over.old.room }
     ensures list { (items : List ℕ) (list : List Entry) (e : Entry)
         → AgreesAs (seen over.old ram.now) (shape_of conf.now) conf.now items list → IsPaired items list item e
-        → AgreesAs (seen over.new ram.now) (shape_of conf.now) conf.now (item ∷ without_number items item) (e ∷ without e.key list) }
+        → AgreesAs (seen over.new ram.now) (shape_of conf.now) conf.now
+        (item ∷ without_number items item) (e ∷ without e.key list) }
     ensures costs { Costs (shape_of conf.now) 6 [] over.old over.new }
 {
     to_front(ram, over, &shape_of(conf), item);

@@ -4,7 +4,7 @@ use Rattle.uw_model.specs.Calls.{without}
 use Rattle.uw_model.specs.Placement.{room}
 use Rattle.uw_words.specs.Texts.{text_words}
 use Rattle.uw_plan.proofs.Writing.{HasMade, entered, mid_room, put_room, put_state, spare_alone}
-use Rattle.uw_plan.proofs.writes.put_entry.Goals as goal
+use Rattle.uw_plan.proofs.put.put_entry.Goals as goal
 
 pub remove_key-requires-clause-room : goal.remove_key-requires-clause-room
 remove_key-requires-clause-room c = λ items list held.

@@ -1,7 +1,7 @@
 use Rattle.std.proofs.Common.{subst}
 use Rattle.uw_plan.specs.CallSteps.{IsItemOf, entry_at}
 use Rattle.uw_plan.proofs.Writing.{key_gone, key_in_use, key_room, key_unheld}
-use Rattle.uw_plan.proofs.writes.remove_key.Goals as goal
+use Rattle.uw_plan.proofs.put.remove_key.Goals as goal
 
 pub drop_entry-requires-clause-used : goal.drop_entry-requires-clause-used
 drop_entry-requires-clause-used c =

@@ -3,7 +3,7 @@ use Rattle.uw_model.specs.declared.calls.Call.TheVariants as calls
 use Rattle.uw_model.specs.declared.calls.Answer.TheVariants as answers
 use Rattle.uw_model.specs.Calls.{alive_at, is_bad_key}
 use Rattle.uw_plan.proofs.Calling.{exists_answer, exists_leaves, found_where, has_entries, region_length, seen_agrees, unchanged}
-use Rattle.uw_plan.proofs.plan.plan_exists.Goals as goal
+use Rattle.uw_plan.proofs.reads.plan_exists.Goals as goal
 
 pub returns-then-is_bad_key-clause-plan : goal.returns-then-is_bad_key-clause-plan
 returns-then-is_bad_key-clause-plan c = λ list agrees.
