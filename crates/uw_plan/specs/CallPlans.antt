@@ -28,13 +28,17 @@ pub record HoldsValueOf (reader : ℕ → ℕ) (shape : Shape) (item : ℕ) (val
   pub lies : LieInBlocks shape (item_word reader shape item 4) (item_word reader shape item 5)
   pub is : held_value reader shape item ≡ value
 
--- the answer that a plan tells: itself; or the value of an item, before the planned words are written and behind them; or the
--- keys of the alive entries, in order, where no word is planned
-abbrev pub Tells : CacheConf → List ℕ → Plan → ℕ → PlanAnswer → Answer → Type 0
-Tells conf words plan now (told.Ready a) answer = a ≡ answer
-Tells conf words plan now (told.ValueOf item) answer =
+-- the answer is the value of an item, as the region has it and as it is seen through what is planned
+abbrev pub TellsValue : CacheConf → List ℕ → Plan → (item : ℕ) → Answer → Type 0
+TellsValue conf words plan item answer =
     (value : List ℕ) × ((answer ≡ answers.Value value) × (item < conf.items)
     × HoldsValueOf (region words) (shape_of conf) item value × HoldsValueOf (seen plan words) (shape_of conf) item value)
+
+-- the answer that a plan tells: itself; or the value of an item; or the keys of the alive entries, in order, where no word is
+-- planned
+abbrev pub Tells : CacheConf → List ℕ → Plan → ℕ → PlanAnswer → Answer → Type 0
+Tells conf words plan now (told.Ready a) answer = a ≡ answer
+Tells conf words plan now (told.ValueOf item) answer = TellsValue conf words plan item answer
 Tells conf words plan now told.KeyList answer =
     (plan.writes ≡ []) × ((list : List Entry) → Agrees conf words list → answer ≡ answers.Keys (map (λ e. e.key) (alive_of conf now list)))
 
