@@ -13,6 +13,7 @@ mod reads;
 mod region;
 mod removes;
 mod room;
+mod writes;
 
 pub use blank::blank_region;
 pub use entries::{add_entry, drop_entry};
