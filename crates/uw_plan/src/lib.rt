@@ -17,8 +17,6 @@ mod writes;
 
 pub use blank::blank_region;
 pub use entries::{add_entry, drop_entry};
-pub use plan::PlanAnswer;
-pub use policies::{clear, make_room, purge, sweep};
+pub use plan::{PlanAnswer, plan_call};
 pub use region::{frame_of, shape_of};
-pub use room::free_run;
 pub use uw_model::words_of;
