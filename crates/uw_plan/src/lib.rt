@@ -13,6 +13,7 @@ mod reads;
 mod region;
 mod removes;
 mod room;
+mod tells;
 
 pub use blank::blank_region;
 pub use entries::{add_entry, drop_entry};
@@ -20,4 +21,5 @@ pub use plan::PlanAnswer;
 pub use policies::{clear, make_room, purge, sweep};
 pub use region::{frame_of, shape_of};
 pub use room::free_run;
+pub use tells::told;
 pub use uw_model::words_of;
