@@ -27,3 +27,5 @@ pub mod Roomy
 pub mod Writing
 pub mod Calling
 pub mod Setting
+pub mod Telling
+pub mod Walked

@@ -9,4 +9,5 @@ pub mod Plans
 pub mod EntrySteps
 pub mod CallSteps
 pub mod CallPlans
+pub mod CountedWalks
 pub mod PolicySteps
