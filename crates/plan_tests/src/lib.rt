@@ -2,4 +2,7 @@
 #![tactic(auto)]
 
 #[cfg(test)]
+mod calls;
+#[cfg(test)]
 mod regions;
+pub mod twins;

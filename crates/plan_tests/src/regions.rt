@@ -22,7 +22,7 @@ const BLANK: [u64; 61] = [
 ];
 
 /// Four items of eight bytes each, on four chains.
-fn small_cache(alloc: Global) -> CacheConf
+pub fn small_cache(alloc: Global) -> CacheConf
     ensures { IsCacheConf result }
 {
     CacheConf {
