@@ -23,7 +23,7 @@ use Rattle.uw_plan.specs.Regions.{shape_of}
 use Rattle.uw_plan.specs.Agreement.{Agrees, AgreesAs}
 use Rattle.uw_plan.specs.Bounds.{has_written, written_entry}
 use Rattle.uw_plan.specs.CallSteps.{HasSpareFor, IsItemOf, IsPut}
-use Rattle.uw_plan.specs.CallPlans.{IsNumberAt, IsPlanned, IsUnplanned}
+use Rattle.uw_plan.specs.CallPlanSteps.{IsNumberAt, IsPlanned, IsUnplanned}
 use Rattle.uw_plan.specs.Parts.{HoldsEntry}
 use Rattle.uw_plan.specs.Plans.{IsInUse, IsPaired}
 use Rattle.uw_plan.proofs.Calling.{has_spare}

@@ -9,12 +9,13 @@ ghost use Rattle.uw_intent.specs.RedoRecord.{FitsRecord, commit_writes};
 ghost use Rattle.uw_intent.specs.RightWrites.{IsRight};
 ghost use Rattle.uw_plan.specs.Agreement.{Agrees};
 ghost use Rattle.uw_plan.specs.CacheKind.{cache_kind};
-ghost use Rattle.uw_plan.specs.CallPlans.{IsUnplanned, PlansFor, TellsOf};
+ghost use Rattle.uw_plan.specs.CallPlanSteps.{IsUnplanned, PlansFor};
+ghost use Rattle.uw_plan.specs.Told.{TellsOf};
 ghost use Rattle.uw_plan.specs.Regions.{frame_of, shape_of};
 
 use crate::reads::{plan_exists, plan_get, plan_num};
 use crate::removes::{plan_clear, plan_del, plan_sweep};
-use crate::writes::{plan_set, plan_update};
+use crate::writes::{Reckoning, plan_math, plan_set, plan_update};
 use uw_model::{Answer, CacheConf, Call};
 use uw_words::{Overlay, Ram};
 
@@ -72,7 +73,21 @@ fn planned(
         }
         Call::Clear => PlanAnswer::Ready(plan_clear(ram, conf, over)),
         Call::Num { key } => PlanAnswer::Ready(plan_num(ram, conf, over, moment, key.as_slice())),
-        Call::Math { .. } => PlanAnswer::KeyList,
+        Call::Math { op, key, by, ttl } => {
+            let reckoning = Reckoning {
+                op: *op,
+                by: *by,
+                ttl: *ttl,
+            };
+            PlanAnswer::Ready(plan_math(
+                ram,
+                conf,
+                over,
+                moment,
+                key.as_slice(),
+                reckoning,
+            ))
+        }
         Call::Keys => PlanAnswer::KeyList,
         Call::Sweep => PlanAnswer::Ready(plan_sweep(ram, conf, over, moment)),
     }

@@ -5,7 +5,7 @@ ghost use Rattle.uw_model.specs.declared.calls.Answer.{Answer};
 ghost use Rattle.uw_model.specs.Entries.{IsCacheConf};
 ghost use Rattle.uw_model.specs.Placement.{alive_of};
 ghost use Rattle.uw_plan.specs.Agreement.{Agrees};
-ghost use Rattle.uw_plan.specs.CallPlans.{Tells};
+ghost use Rattle.uw_plan.specs.Told.{Tells};
 
 use crate::plan::PlanAnswer;
 use crate::region::shape_of;

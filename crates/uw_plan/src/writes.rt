@@ -7,7 +7,7 @@ ghost use Rattle.uw_model.specs.Entries.{IsCacheConf};
 ghost use Rattle.uw_model.specs.Layout.{words_of};
 ghost use Rattle.uw_words.specs.Parts.{seen};
 ghost use Rattle.uw_plan.specs.Agreement.{Agrees, AgreesAs};
-ghost use Rattle.uw_plan.specs.CallPlans.{IsNumberAt, IsUnplanned, PlansFor};
+ghost use Rattle.uw_plan.specs.CallPlanSteps.{IsNumberAt, IsUnplanned, PlansFor};
 ghost use Rattle.uw_plan.specs.CallSteps.{IsItemOf, IsPut};
 ghost use Rattle.uw_plan.specs.Plans.{IsInUse};
 ghost use Rattle.uw_plan.specs.Regions.{shape_of};

@@ -1,11 +1,11 @@
-use Rattle.std.proofs.Common.{◌≡◌, ◌∙◌, List, map, refl, sym, ap, subst}
+use Rattle.std.proofs.Common.{◌≡◌, ◌∙◌, ℕ, List, map, refl, sym, ap, subst}
 use Rattle.uw_model.specs.declared.calls.Answer.TheVariants as answers
 use Rattle.uw_model.specs.declared.calls.Call.{Call}
 use Rattle.uw_model.specs.declared.calls.Call.TheVariants as calls
 use Rattle.uw_model.specs.declared.entries.Entry.{Entry}
 use Rattle.uw_model.specs.Calls.{answer}
 use Rattle.uw_model.specs.Placement.{alive_of}
-use Rattle.uw_plan.specs.CallPlans.{IsPlanned}
+use Rattle.uw_plan.specs.CallPlanSteps.{IsPlanned}
 use Rattle.uw_plan.proofs.Agreeing.{list_once}
 use Rattle.uw_plan.proofs.Calling.{unchanged}
 use Rattle.uw_plan.proofs.plan.planned.Goals as goal
@@ -27,3 +27,6 @@ returns-in-Keys-clause-tells c = λ list agrees. (
 pub returns-in-Sweep-clause-plan : goal.returns-in-Sweep-clause-plan
 returns-in-Sweep-clause-plan c = λ list agrees.
     subst (λ (call : Call). IsPlanned c.args.conf.now c.args.ram.now c.plan_sweep.new.over list c.args.moment call) (sym c.in-Sweep.is) (c.plan_sweep.ensures.plan list agrees)
+
+pub returns-in-Math-clause-plan : goal.returns-in-Math-clause-plan
+returns-in-Math-clause-plan c = ?

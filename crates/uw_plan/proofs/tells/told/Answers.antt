@@ -1,6 +1,6 @@
 use Rattle.std.proofs.Common.{◌∙◌, ap, subst, sym}
 use Rattle.uw_model.specs.declared.calls.Answer.TheVariants as answers
-use Rattle.uw_plan.specs.CallPlans.{Tells}
+use Rattle.uw_plan.specs.Told.{Tells}
 use Rattle.uw_plan.specs.declared.plan.PlanAnswer.{PlanAnswer}
 use Rattle.uw_plan.proofs.tells.told.Goals as goal
 

@@ -1,7 +1,7 @@
 use Rattle.std.proofs.Common.{◌≡◌, None, Option, Some, sym, ap, subst}
 use Rattle.uw_model.specs.declared.entries.Entry.{Entry}
 use Rattle.uw_model.specs.Calls.{is_no_number, number_at}
-use Rattle.uw_plan.specs.CallPlans.{IsNumberAt}
+use Rattle.uw_plan.specs.CallPlanSteps.{IsNumberAt}
 use Rattle.uw_plan.specs.CallSteps.{IsItemOf}
 use Rattle.uw_plan.proofs.Calling.{number_found}
 use Rattle.uw_plan.proofs.writes.number_found.Goals as goal

@@ -8,7 +8,7 @@ use Rattle.uw_words.specs.Parts.{seen}
 use Rattle.uw_plan.specs.Agreement.{Agrees}
 use Rattle.uw_plan.specs.Plans.{IsInUse}
 use Rattle.uw_plan.specs.Regions.{shape_of}
-use Rattle.uw_plan.specs.CallPlans.{IsNumberAt}
+use Rattle.uw_plan.specs.CallPlanSteps.{IsNumberAt}
 use Rattle.uw_plan.proofs.Calling.{has_entries, region_length, seen_agrees, unchanged}
 use Rattle.uw_plan.proofs.Setting.{bad_math, full_answer, full_plan, good_math, no_number_math, number_short, range_math, used_found, wrote_answer, wrote_plan, zero_math}
 use Rattle.uw_plan.proofs.writes.plan_math.Goals as goal
