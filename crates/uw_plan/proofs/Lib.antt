@@ -26,3 +26,4 @@ pub mod Purging
 pub mod Roomy
 pub mod Writing
 pub mod Calling
+pub mod Nearby
