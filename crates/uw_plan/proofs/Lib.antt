@@ -27,3 +27,4 @@ pub mod Roomy
 pub mod Writing
 pub mod Calling
 pub mod Nearby
+pub mod Freed

@@ -74,7 +74,7 @@ module _ (marked : ℕ → Bool) (blocks first m n : ℕ)
     near_none short ends earlier run = ⊎_elim
         (λ less. no_earlier earlier less run)
         (λ later. ⊎_elim
-          (λ all. absurd (omega (arith, run.within, all)))
-          (λ marked_end. none_marked marked blocks earlier n end run (omega (arith, meets_back earlier run)) (omega arith) marked_end)
-          ends)
+        (λ all. absurd (omega (arith, run.within, all)))
+        (λ marked_end. none_marked marked blocks earlier n end run (omega (arith, meets_back earlier run)) (omega arith) marked_end)
+        ends)
         (cases_lt earlier start)

@@ -25,7 +25,8 @@ fn free_back(ram: &Ram, over: &Overlay, shape: &Shape, first: u64) -> u64
     requires len { length ram.now ≡ shape_words shape.now }
     requires within { first ≤ shape.now.n_blocks }
     ensures before { result ≤ first }
-    ensures free { (block : ℕ) → result ≤ block → block < first → is_marked (seen over.now ram.now) shape.now block ≡ false }
+    ensures free { (block : ℕ) → result ≤ block → block < first
+        → is_marked (seen over.now ram.now) shape.now block ≡ false }
     ensures taken { 0 < result → is_marked (seen over.now ram.now) shape.now (result - 1) ≡ true }
 {
     let mut start = first;
@@ -40,14 +41,7 @@ fn free_back(ram: &Ram, over: &Overlay, shape: &Shape, first: u64) -> u64
 
 /// The least block from which n blocks are free, where none were before these m blocks were freed. None where there is
 /// none. Looks at no more than n blocks before these and n behind them. Takes no memory.
-pub fn run_near(
-    ram: &Ram,
-    over: &Overlay,
-    shape: &Shape,
-    first: u64,
-    m: u64,
-    n: u64,
-) -> Option<u64>
+pub fn run_near(ram: &Ram, over: &Overlay, shape: &Shape, first: u64, m: u64, n: u64) -> Option<u64>
     requires shape { IsShape shape.now }
     requires len { length ram.now ≡ shape_words shape.now }
     requires n { 1 ≤ n }
@@ -56,9 +50,11 @@ pub fn run_near(
     requires freed { (block : ℕ) → first ≤ block → block < first + m
         → is_marked (seen over.now ram.now) shape.now block ≡ false }
     requires none { (start : ℕ)
-        → IsFreeRun (λ block. if is_in_run first m block then true else is_marked (seen over.now ram.now) shape.now block)
+        → IsFreeRun
+        (λ block. if is_in_run first m block then true else is_marked (seen over.now ram.now) shape.now block)
         shape.now.n_blocks start n → ⊥ }
-    ensures some { IfSome result (λ start. IsLeastFreeRun (is_marked (seen over.now ram.now) shape.now) shape.now.n_blocks start n) }
+    ensures some { IfSome result (λ start.
+        IsLeastFreeRun (is_marked (seen over.now ram.now) shape.now) shape.now.n_blocks start n) }
     ensures none { result ≡ None
         → (start : ℕ) → IsFreeRun (is_marked (seen over.now ram.now) shape.now) shape.now.n_blocks start n → ⊥ }
 {

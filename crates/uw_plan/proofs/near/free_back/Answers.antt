@@ -23,7 +23,7 @@ pub loop-start-preserved : goal.loop-start-preserved
 loop-start-preserved c = (
   omega (arith, c.loop-start.invariant.0),
   more_before (is_marked (seen c.args.over.now c.args.ram.now) c.args.shape.now) c.loop-start.start c.args.first
-    (sym c.is_marked.ensures ∙ c.if-is_marked.false) c.loop-start.invariant.1,
+      (sym c.is_marked.ensures ∙ c.if-is_marked.false) c.loop-start.invariant.1,
 )
 
 pub returns-clause-free : goal.returns-clause-free

@@ -15,7 +15,7 @@ loop-end-init c = (
   omega arith,
   c.requires.within,
   joined (is_marked (seen c.args.over.now c.args.ram.now) c.args.shape.now) c.free_back-start.result c.args.first (c.args.first + c.args.m)
-    c.free_back-start.ensures.free c.requires.freed,
+      c.free_back-start.ensures.free c.requires.freed,
 )
 
 pub overflow_sub-end : goal.overflow_sub-end
@@ -45,7 +45,7 @@ loop-end-preserved c = (
   omega (arith, c.loop-end.invariant.0),
   omega (arith, c.loop-end.invariant.1, c.if-end-shape.false),
   more_behind (is_marked (seen c.args.over.now c.args.ram.now) c.args.shape.now) c.free_back-start.result c.loop-end.end
-    (sym c.is_marked.ensures ∙ c.if-is_marked.false) c.loop-end.invariant.2,
+      (sym c.is_marked.ensures ∙ c.if-is_marked.false) c.loop-end.invariant.2,
 )
 
 pub returns-clause-some : goal.returns-clause-some
