@@ -29,3 +29,5 @@ pub mod Calling
 pub mod Setting
 pub mod Telling
 pub mod Walked
+pub mod Nearby
+pub mod Freed

@@ -6,6 +6,7 @@ mod blank;
 mod entries;
 pub mod laws;
 mod lookup;
+mod near;
 mod plan;
 mod policies;
 mod put;

@@ -116,6 +116,15 @@ pub struct Reckoning {
     pub ttl: u64,
 }
 
+impl Reckoning {
+    /// By an operation, an amount, and a time to live.
+    pub fn new(op: MathOp, by: i64, ttl: u64) -> Reckoning
+        ensures { result ≡ record { op = op; by = by; ttl = ttl } }
+    {
+        Reckoning { op, by, ttl }
+    }
+}
+
 // The number of the entry that an item holds, 0 where there is none. None where the value of that entry is none of a
 // number.
 fn number_found(ram: &Ram, conf: &CacheConf, over: &Overlay, item: Option<u64>) -> Option<i64>
