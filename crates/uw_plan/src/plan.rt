@@ -74,7 +74,7 @@ fn planned(
         Call::Clear => PlanAnswer::Ready(plan_clear(ram, conf, over)),
         Call::Num { key } => PlanAnswer::Ready(plan_num(ram, conf, over, moment, key.as_slice())),
         Call::Math { op, key, by, ttl } => {
-            let reckoning = Reckoning::new(*op, *by, *ttl);
+            let reckoning = Reckoning::new(op, by, ttl);
             PlanAnswer::Ready(plan_math(
                 ram,
                 conf,
