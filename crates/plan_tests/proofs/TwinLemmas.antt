@@ -1,5 +1,5 @@
 -- A region answers as a plain list, and stands for it after each call.
-use Rattle.std.proofs.Common.{◌≡◌, ℕ, List, [], length, refl, sym, ap, ◌∙◌, subst}
+use Rattle.std.proofs.Common.{◌≡◌, ℕ, true, List, [], length, Result, Ok, Err, is_ok, OnOk, refl, sym, ap, ◌∙◌, subst}
 use Rattle.uw_model.specs.declared.conf.CacheConf.{CacheConf}
 use Rattle.uw_model.specs.declared.entries.Entry.{Entry}
 use Rattle.uw_model.specs.declared.calls.Call.{Call}
@@ -34,3 +34,8 @@ module _ (conf : CacheConf) (is : IsCacheConf conf) (words : List ℕ) (list : L
       let is_now : now ≡ words_after todo words = made ∙ ap (λ (f : Frame). words_after (commit_writes f plan) words) framed in
       subst (λ (w : List ℕ). Agrees conf w (next_state conf list moment call)) (sym is_now)
       (right_agree (cache_kind conf) (regions_local conf is) words list moment call (answer conf list moment call) todo agrees right)
+
+-- what a call ensures where it ends well, as it does here
+pub on_ok : {T E : Type 0} (result : Result T E) (P : Type 0) → true ≡ is_ok result → OnOk result P → P
+on_ok (Ok value) P ok holds = holds
+on_ok (Err error) P ok holds = absurd (let none : ⊥ = cc in none)
