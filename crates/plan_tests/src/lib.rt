@@ -2,8 +2,11 @@
 #![tactic(auto)]
 
 #[cfg(test)]
+mod calls;
+#[cfg(test)]
 mod entries;
 #[cfg(test)]
 mod regions;
 #[cfg(test)]
 mod small;
+pub mod twins;

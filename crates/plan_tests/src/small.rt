@@ -1,5 +1,6 @@
 // The small cache of the tests.
 ghost use Rattle.std.specs.Prelude.{◌≡◌};
+ghost use Rattle.uw_model.specs.Entries.{IsCacheConf};
 ghost use Rattle.plan_tests.specs.Small.{small_conf};
 
 use std::alloc::Global;
@@ -8,7 +9,8 @@ use uw_model::CacheConf;
 
 /// Four items of eight bytes each, on four chains.
 pub fn small_cache(alloc: Global) -> CacheConf
-    ensures { result ≡ small_conf }
+    ensures is { result ≡ small_conf }
+    ensures conf { IsCacheConf result }
 {
     CacheConf {
         name: Bytes::new(alloc),

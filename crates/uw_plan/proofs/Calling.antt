@@ -22,7 +22,8 @@ use Rattle.uw_plan.specs.Agreement.{Agrees, AgreesAs}
 use Rattle.uw_plan.specs.Plans.{IsPaired, count_of_others, is_bit_place}
 use Rattle.uw_plan.specs.CallSteps.{HasEntries, HasSpareFor, IsItemOf}
 use Rattle.uw_plan.specs.Parts.{HoldsEntry, fields_of_entry}
-use Rattle.uw_plan.specs.CallPlans.{HoldsValueOf, IsNumberAt, IsPlanned, IsUnplanned, TellsValue}
+use Rattle.uw_plan.specs.CallPlanSteps.{IsNumberAt, IsPlanned, IsUnplanned}
+use Rattle.uw_plan.specs.Told.{HoldsValueOf, TellsValue}
 use Rattle.uw_plan.proofs.Shapes.{IsShapeOf, entry_lies, shape_of_conf}
 use Rattle.uw_plan.proofs.Parted.{paired_entry, paired_holds}
 use Rattle.uw_plan.proofs.Dropping.{item_short}

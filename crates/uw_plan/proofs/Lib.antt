@@ -26,3 +26,8 @@ pub mod Purging
 pub mod Roomy
 pub mod Writing
 pub mod Calling
+pub mod Setting
+pub mod Telling
+pub mod Walked
+pub mod Nearby
+pub mod Freed

@@ -17,7 +17,7 @@ use Rattle.uw_plan.specs.Agreement.{Agrees, AgreesAs}
 use Rattle.uw_plan.specs.Bounds.{bitmap_places, lost_entries, most_planned, most_writes, runs_of, written_entry}
 use Rattle.uw_plan.specs.Plans.{Costs, bit_places, count_of_others, is_bit_place}
 use Rattle.uw_plan.specs.CallSteps.{Enters, IsEntryOf, Leaves}
-use Rattle.uw_plan.specs.CallPlans.{IsPlanned}
+use Rattle.uw_plan.specs.CallPlanSteps.{IsPlanned}
 use Rattle.uw_plan.proofs.Shapes.{shape_of_conf}
 use Rattle.uw_plan.proofs.Costing.{once_each}
 use Rattle.uw_plan.proofs.Counting.{bits_within, few_writes, targets_of}

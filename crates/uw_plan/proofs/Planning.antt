@@ -27,7 +27,7 @@ use Rattle.uw_plan.specs.Regions.{frame_of, shape_of}
 use Rattle.uw_plan.specs.Agreement.{Agrees}
 use Rattle.uw_plan.specs.Bounds.{most_writes}
 use Rattle.uw_plan.specs.CacheKind.{cache_kind}
-use Rattle.uw_plan.specs.CallPlans.{IsPlanned}
+use Rattle.uw_plan.specs.CallPlanSteps.{IsPlanned}
 use Rattle.uw_plan.proofs.Shapes.{shape_of_conf}
 use Rattle.uw_plan.proofs.Agreeing.{agreement_stays, regions_local}
 

@@ -83,3 +83,18 @@ module _ (reader : ℕ → ℕ) (conf : CacheConf) (items : List ℕ) (list : Li
   full_fits n full =
       let room : nat_lt (length list) conf.items ≡ false = le-ltb (length list) conf.items (omega (arith, full, count_is)) in
       ap (λ (b : Bool). b && is_some (first_run conf list n)) (sym room)
+
+  -- where it is not for want of items that there is no room, no run is free
+  pub no_run_is_free : (n : ℕ) → 1 ≤ n → reader 9 < conf.items → fits conf list n ≡ false
+      → (start : ℕ) → IsFreeRun (is_marked reader (shape_of conf)) conf.blocks start n → ⊥
+  no_run_is_free n some fewer full start run =
+      let room : nat_lt (length list) conf.items ≡ true = lt-ltb (length list) conf.items (omega (arith, fewer, count_is)) in
+      let none : is_some (first_run conf list n) ≡ false = ap (λ (b : Bool). b && is_some (first_run conf list n)) (sym room) ∙ full in
+      let taken : is_free conf list n start ≡ false = (no_run conf list n).0 (is_none (first_run conf list n) none) start run.within in
+      let free : is_free conf list n start ≡ true = free_of_run conf list n some (is_marked reader (shape_of conf)) marks_are start run in
+      let other : true ≡ false = sym free ∙ taken in
+      grind (arith, other)
+    where
+      is_none : (o : Option ℕ) → is_some o ≡ false → o ≡ None
+      is_none None is = refl
+      is_none (Some place) is = let other : true ≡ false = is in grind (arith, other)

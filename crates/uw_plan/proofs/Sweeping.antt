@@ -39,10 +39,10 @@ pub record Swept (conf : CacheConf) (words : List ℕ) (moment : ℕ) (before no
   pub next : turn ≡ slice_get leaves.items (length (alive_of conf moment passed))
 
 module _ (conf : CacheConf) (moment : ℕ) where
-  alive_more : (passed : List Entry) (e : Entry) → is_alive conf moment e ≡ true → alive_of conf moment (passed ++ (e ∷ [])) ≡ alive_of conf moment passed ++ (e ∷ [])
+  pub alive_more : (passed : List Entry) (e : Entry) → is_alive conf moment e ≡ true → alive_of conf moment (passed ++ (e ∷ [])) ≡ alive_of conf moment passed ++ (e ∷ [])
   alive_more passed e alive = filter-append (is_alive conf moment) passed (e ∷ []) ∙ ap (λ (l : List Entry). alive_of conf moment passed ++ l) (rw alive refl)
 
-  alive_less : (passed : List Entry) (e : Entry) → is_alive conf moment e ≡ false → alive_of conf moment (passed ++ (e ∷ [])) ≡ alive_of conf moment passed
+  pub alive_less : (passed : List Entry) (e : Entry) → is_alive conf moment e ≡ false → alive_of conf moment (passed ++ (e ∷ [])) ≡ alive_of conf moment passed
   alive_less passed e dead =
       filter-append (is_alive conf moment) passed (e ∷ []) ∙ ap (λ (l : List Entry). alive_of conf moment passed ++ l) (rw dead refl) ∙ append-nil (alive_of conf moment passed)
 

@@ -8,5 +8,7 @@ pub mod Example
 pub mod Plans
 pub mod EntrySteps
 pub mod CallSteps
-pub mod CallPlans
+pub mod Told
+pub mod CallPlanSteps
+pub mod CountedWalks
 pub mod PolicySteps

@@ -1,11 +1,12 @@
 //! The region of a cache: where its parts stand, which words of it agree with a list of entries, a region without an
-//! entry, and the words that are planned where an entry leaves the list.
+//! entry, and for each call the words that are planned and the answer that is told.
 #![tactic(auto)]
 
 mod blank;
 mod entries;
 pub mod laws;
 mod lookup;
+mod near;
 mod plan;
 mod policies;
 mod put;
@@ -13,11 +14,12 @@ mod reads;
 mod region;
 mod removes;
 mod room;
+mod tells;
+mod writes;
 
 pub use blank::blank_region;
 pub use entries::{add_entry, drop_entry};
-pub use plan::PlanAnswer;
-pub use policies::{clear, make_room, purge, sweep};
+pub use plan::{PlanAnswer, plan_call};
 pub use region::{frame_of, shape_of};
-pub use room::free_run;
+pub use tells::told;
 pub use uw_model::words_of;

@@ -2,20 +2,24 @@
 ghost use Rattle.std.specs.Prelude.{◌≡◌, ◌≤◌, ◌&&◌, ℕ, List, [], None, Some, IfSome, MatchOption, false, true, not};
 ghost use Rattle.std.specs.Prelude.{filter, is_some, length, unwrap_or};
 ghost use Rattle.uw_model.specs.declared.entries.Entry.{Entry};
+ghost use Rattle.uw_model.specs.Calls.{without};
 ghost use Rattle.uw_model.specs.Entries.{IsCacheConf};
 ghost use Rattle.uw_model.specs.Layout.{words_of};
 ghost use Rattle.uw_model.specs.Placement.{alive_of, first_run, fits, is_alive, longest_front, room};
+ghost use Rattle.uw_words.specs.Numbers.{without_number};
 ghost use Rattle.uw_words.specs.Parts.{seen};
 ghost use Rattle.uw_plan.specs.Agreement.{AgreesAs};
 ghost use Rattle.uw_plan.specs.CallSteps.{HasEntries, HasSpareFor, Leaves};
+ghost use Rattle.uw_plan.specs.Plans.{Costs, HasRoomFor, IsPaired, item_run_places};
 ghost use Rattle.uw_plan.specs.PolicySteps.{swept_where_set};
 ghost use Rattle.uw_plan.specs.Regions.{shape_of};
 
 use crate::entries::drop_entry;
+use crate::near::run_near;
 use crate::region::shape_of;
 use crate::room::free_run;
 use uw_items::fields_of;
-use uw_model::{CacheConf, is_alive_until};
+use uw_model::{CacheConf, is_alive_until, span_of};
 use uw_recency::{last, newest, older};
 use uw_words::{Overlay, Ram};
 
@@ -69,6 +73,40 @@ pub fn clear(ram: &Ram, conf: &CacheConf, over: &mut Overlay)
     }
 }
 
+// Plans that the entry of an item leaves a list which has no room for one more entry of n blocks, and gives the first
+// run of so many where there is room then. Where an item was free before, no run was, and only blocks round those of
+// the entry are looked at. Takes no memory.
+fn run_after(ram: &Ram, conf: &CacheConf, over: &mut Overlay, item: u64, n: u64) -> Option<u64>
+    requires conf { IsCacheConf conf.now }
+    requires region { length ram.now ≡ words_of conf.now }
+    requires n { 1 ≤ n }
+    requires used { (items : List ℕ) × (list : List Entry) × (e : Entry)
+        × (AgreesAs (seen over.old ram.now) (shape_of conf.now) conf.now items list
+        × IsPaired items list item e × (fits conf.now list n ≡ false)) }
+    requires room { HasRoomFor over.old 16 (item_run_places (seen over.old ram.now) (shape_of conf.now) conf.now item) }
+    ensures list { (items : List ℕ) (list : List Entry) (e : Entry)
+        → AgreesAs (seen over.old ram.now) (shape_of conf.now) conf.now items list → IsPaired items list item e
+        → AgreesAs (seen over.new ram.now) (shape_of conf.now) conf.now (without_number items item) (without e.key list) }
+    ensures costs { Costs (shape_of conf.now) 16 (item_run_places (seen over.old ram.now) (shape_of conf.now) conf.now item)
+        over.old over.new }
+    ensures fits { (items : List ℕ) (list : List Entry)
+        → AgreesAs (seen over.new ram.now) (shape_of conf.now) conf.now items list
+        → is_some result ≡ fits conf.now list n }
+    ensures run { (items : List ℕ) (list : List Entry)
+        → AgreesAs (seen over.new ram.now) (shape_of conf.now) conf.now items list
+        → IfSome result (λ first. first_run conf.now list n ≡ Some first) }
+{
+    let shape = shape_of(conf);
+    let all_used = over.load(ram, shape.head + 9) >= shape.n_items;
+    let fields = fields_of(ram, over, &shape, item);
+    let m = span_of(conf, fields.length);
+    drop_entry(ram, conf, over, item);
+    if all_used {
+        return free_run(ram, conf, over, n);
+    }
+    run_near(ram, over, &shape, fields.first, m, n)
+}
+
 /// Plans that the least recent entries leave the list, one after the other, until there is room for one more entry of n
 /// blocks, and gives the first run of so many. None where there is none in the empty list either. Takes no memory.
 pub fn purge(ram: &Ram, conf: &CacheConf, over: &mut Overlay, n: u64) -> Option<u64>
@@ -91,8 +129,7 @@ pub fn purge(ram: &Ram, conf: &CacheConf, over: &mut Overlay, n: u64) -> Option<
 {
     let shape = shape_of(conf);
     while let Some(item) = last(ram, over, &shape) {
-        drop_entry(ram, conf, over, item);
-        if let Some(first) = free_run(ram, conf, over, n) {
+        if let Some(first) = run_after(ram, conf, over, item, n) {
             return Some(first);
         }
     }

@@ -4,7 +4,8 @@ ghost use Rattle.uw_model.specs.declared.entries.Entry.{Entry};
 ghost use Rattle.uw_model.specs.declared.calls.Call.TheVariants as calls;
 ghost use Rattle.uw_model.specs.Calls.{alive_at, answer};
 ghost use Rattle.uw_plan.specs.Agreement.{Agrees};
-ghost use Rattle.uw_plan.specs.CallPlans.{IsNumberAt, IsUnplanned, PlansFor, TellsOf};
+ghost use Rattle.uw_plan.specs.CallPlanSteps.{IsNumberAt, IsUnplanned, PlansFor};
+ghost use Rattle.uw_plan.specs.Told.{TellsOf};
 
 use crate::lookup::{alive_item, number_of_item, use_entry};
 use crate::plan::PlanAnswer;

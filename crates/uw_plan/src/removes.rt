@@ -5,7 +5,7 @@ ghost use Rattle.uw_model.specs.declared.calls.Call.TheVariants as calls;
 ghost use Rattle.uw_model.specs.declared.calls.Answer.TheVariants as answers;
 ghost use Rattle.uw_model.specs.Calls.{answer};
 ghost use Rattle.uw_plan.specs.Agreement.{Agrees};
-ghost use Rattle.uw_plan.specs.CallPlans.{IsUnplanned, PlansFor};
+ghost use Rattle.uw_plan.specs.CallPlanSteps.{IsUnplanned, PlansFor};
 
 use crate::entries::drop_entry;
 use crate::lookup::alive_item;

@@ -1,7 +1,7 @@
 use Rattle.std.proofs.Common.{◌≡◌, None, Option, refl, sym, ap, subst}
 use Rattle.uw_model.specs.declared.entries.Entry.{Entry}
 use Rattle.uw_model.specs.Calls.{is_no_number, number_at}
-use Rattle.uw_plan.specs.CallPlans.{IsNumberAt}
+use Rattle.uw_plan.specs.CallPlanSteps.{IsNumberAt}
 use Rattle.uw_plan.proofs.Calling.{has_entries, number_found, region_length, seen_agrees}
 use Rattle.uw_plan.proofs.reads.number_of_key.Goals as goal
 

@@ -1,4 +1,4 @@
--- What the plan of a call does: the words that it plans, and the answer that it tells (own rule).
+-- The words that are planned for a call (own rule).
 use Rattle.std.specs.Prelude.{◌≡◌, ℕ, ◌+◌, ◌*◌, ◌<◌, ◌≤◌, List, [], map, length, Bool, true, false, Option, MatchOption, ℤ}
 use Rattle.uw_model.specs.declared.conf.CacheConf.{CacheConf}
 use Rattle.uw_model.specs.declared.entries.Entry.{Entry}
@@ -23,25 +23,6 @@ use Rattle.uw_plan.specs.Regions.{frame_of, shape_of}
 use Rattle.uw_plan.specs.declared.plan.PlanAnswer.{PlanAnswer}
 use Rattle.uw_plan.specs.declared.plan.PlanAnswer.TheVariants as told
 
--- a value stands in the blocks that an item names, as a reader gives them
-pub record HoldsValueOf (reader : ℕ → ℕ) (shape : Shape) (item : ℕ) (value : List ℕ) : Type 0 where
-  pub lies : LieInBlocks shape (item_word reader shape item 4) (item_word reader shape item 5)
-  pub is : held_value reader shape item ≡ value
-
--- the answer is the value of an item, as the region has it and as it is seen through what is planned
-abbrev pub TellsValue : CacheConf → List ℕ → Plan → (item : ℕ) → Answer → Type 0
-TellsValue conf words plan item answer =
-    (value : List ℕ) × ((answer ≡ answers.Value value) × (item < conf.items)
-    × HoldsValueOf (region words) (shape_of conf) item value × HoldsValueOf (seen plan words) (shape_of conf) item value)
-
--- the answer that a plan tells: itself; or the value of an item; or the keys of the alive entries, in order, where no word is
--- planned
-abbrev pub Tells : CacheConf → List ℕ → Plan → ℕ → PlanAnswer → Answer → Type 0
-Tells conf words plan now (told.Ready a) answer = a ≡ answer
-Tells conf words plan now (told.ValueOf item) answer = TellsValue conf words plan item answer
-Tells conf words plan now told.KeyList answer =
-    (plan.writes ≡ []) × ((list : List Entry) → Agrees conf words list → answer ≡ answers.Keys (map (λ e. e.key) (alive_of conf now list)))
-
 -- the words that are planned for a call on a list, from an overlay on that plans nothing: read through them a region agrees
 -- with the next list; they are no more than the redo record has room for, their places are once each and may be written, and
 -- a commit of them makes no more writes than the call may
@@ -63,10 +44,6 @@ pub record IsUnplanned (conf : CacheConf) (words : List ℕ) (plan : Plan) : Typ
 -- the words planned for a call are those of each list with which the region agrees, which is one
 abbrev pub PlansFor : CacheConf → List ℕ → Plan → ℕ → Call → Type 0
 PlansFor conf words plan now call = (list : List Entry) → Agrees conf words list → IsPlanned conf words plan list now call
-
--- the answer told is that of each list with which the region agrees
-abbrev pub TellsOf : CacheConf → List ℕ → Plan → ℕ → Call → PlanAnswer → Type 0
-TellsOf conf words plan now call told = (list : List Entry) → Agrees conf words list → Tells conf words plan now told (answer conf list now call)
 
 -- the number of an alive entry, 0 where there is none, or none where its value is none of a number
 abbrev pub IsNumberAt : Option Entry → Option ℤ → Type 0

@@ -1,0 +1,36 @@
+-- A region answers as a plain list, and stands for it after each call.
+use Rattle.std.proofs.Common.{◌≡◌, ℕ, List, [], length, refl, sym, ap, ◌∙◌, subst}
+use Rattle.uw_model.specs.declared.conf.CacheConf.{CacheConf}
+use Rattle.uw_model.specs.declared.entries.Entry.{Entry}
+use Rattle.uw_model.specs.declared.calls.Call.{Call}
+use Rattle.uw_model.specs.Entries.{IsCacheConf}
+use Rattle.uw_model.specs.Calls.{answer, next_state}
+use Rattle.uw_words.specs.declared.shape.Shape.{Shape}
+use Rattle.uw_intent.specs.declared.frame.Frame.{Frame}
+use Rattle.uw_intent.specs.declared.frame.WordWrite.{WordWrite}
+use Rattle.uw_intent.specs.Stores.{words_after}
+use Rattle.uw_intent.specs.RedoRecord.{IsFrame, commit_writes}
+use Rattle.uw_intent.specs.RightWrites.{IsRight}
+use Rattle.uw_intent.proofs.Rights.{right_agree}
+use Rattle.uw_plan.specs.Agreement.{Agrees}
+use Rattle.uw_plan.specs.CacheKind.{cache_kind}
+use Rattle.uw_plan.specs.Regions.{frame_of, shape_of}
+use Rattle.uw_plan.proofs.Agreeing.{regions_local}
+
+module _ (conf : CacheConf) (is : IsCacheConf conf) (words : List ℕ) (list : List Entry) (agrees : Agrees conf words list) (frame : Frame)
+    (shape : Shape) (of_shape : frame ≡ frame_of shape) (of_conf : shape ≡ shape_of conf) where
+  framed : frame ≡ frame_of (shape_of conf)
+  framed = of_shape ∙ ap frame_of of_conf
+
+  pub is_frame : IsFrame frame (length words)
+  is_frame = subst (λ (f : Frame). IsFrame f (length words)) (sym framed) ((regions_local conf is).frame words list agrees)
+
+  -- the words after all writes of a commit agree with the next list
+  pub agrees_after : (moment : ℕ) (call : Call) (plan : List (ℕ × ℕ)) (now : List ℕ)
+      → IsRight (cache_kind conf) words list moment call (answer conf list moment call) (commit_writes (frame_of (shape_of conf)) plan)
+      → now ≡ words_after (commit_writes frame plan) words → Agrees conf now (next_state conf list moment call)
+  agrees_after moment call plan now right made =
+      let todo : List WordWrite = commit_writes (frame_of (shape_of conf)) plan in
+      let is_now : now ≡ words_after todo words = made ∙ ap (λ (f : Frame). words_after (commit_writes f plan) words) framed in
+      subst (λ (w : List ℕ). Agrees conf w (next_state conf list moment call)) (sym is_now)
+      (right_agree (cache_kind conf) (regions_local conf is) words list moment call (answer conf list moment call) todo agrees right)

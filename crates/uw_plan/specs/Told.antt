@@ -1,0 +1,47 @@
+-- The answer that the plan of a call tells (own rule).
+use Rattle.std.specs.Prelude.{◌≡◌, ℕ, ◌+◌, ◌*◌, ◌<◌, ◌≤◌, List, [], map, length, Bool, true, false, Option, MatchOption, ℤ}
+use Rattle.uw_model.specs.declared.conf.CacheConf.{CacheConf}
+use Rattle.uw_model.specs.declared.entries.Entry.{Entry}
+use Rattle.uw_model.specs.declared.calls.Call.{Call}
+use Rattle.uw_model.specs.declared.calls.Answer.{Answer}
+use Rattle.uw_model.specs.declared.calls.Answer.TheVariants as answers
+use Rattle.uw_model.specs.Entries.{IsCacheConf}
+use Rattle.uw_model.specs.Calls.{answer, is_no_number, next_state, number_at}
+use Rattle.uw_model.specs.Layout.{plan_room}
+use Rattle.uw_model.specs.Placement.{alive_of}
+use Rattle.uw_words.specs.declared.shape.Shape.{Shape}
+use Rattle.uw_words.specs.Shapes.{shape_words}
+use Rattle.uw_words.specs.Numbers.{AreDistinct, IsOneOf}
+use Rattle.uw_words.specs.Parts.{places_of, seen}
+use Rattle.uw_words.specs.Plans.{Plan, region}
+use Rattle.uw_words.specs.Walks.{item_word}
+use Rattle.uw_intent.specs.RedoRecord.{IsTarget}
+use Rattle.uw_items.specs.Items.{LieInBlocks, held_value}
+use Rattle.uw_plan.specs.Agreement.{Agrees, AgreesAs}
+use Rattle.uw_plan.specs.Bounds.{most_writes}
+use Rattle.uw_plan.specs.Regions.{frame_of, shape_of}
+use Rattle.uw_plan.specs.declared.plan.PlanAnswer.{PlanAnswer}
+use Rattle.uw_plan.specs.declared.plan.PlanAnswer.TheVariants as told
+
+-- a value stands in the blocks that an item names, as a reader gives them
+pub record HoldsValueOf (reader : ℕ → ℕ) (shape : Shape) (item : ℕ) (value : List ℕ) : Type 0 where
+  pub lies : LieInBlocks shape (item_word reader shape item 4) (item_word reader shape item 5)
+  pub is : held_value reader shape item ≡ value
+
+-- the answer is the value of an item, as the region has it and as it is seen through what is planned
+abbrev pub TellsValue : CacheConf → List ℕ → Plan → (item : ℕ) → Answer → Type 0
+TellsValue conf words plan item answer =
+    (value : List ℕ) × ((answer ≡ answers.Value value) × (item < conf.items)
+    × HoldsValueOf (region words) (shape_of conf) item value × HoldsValueOf (seen plan words) (shape_of conf) item value)
+
+-- the answer that a plan tells: itself; or the value of an item; or the keys of the alive entries, in order, where no word is
+-- planned
+abbrev pub Tells : CacheConf → List ℕ → Plan → ℕ → PlanAnswer → Answer → Type 0
+Tells conf words plan now (told.Ready a) answer = a ≡ answer
+Tells conf words plan now (told.ValueOf item) answer = TellsValue conf words plan item answer
+Tells conf words plan now told.KeyList answer =
+    (plan.writes ≡ []) × ((list : List Entry) → Agrees conf words list → answer ≡ answers.Keys (map (λ e. e.key) (alive_of conf now list)))
+
+-- the answer told is that of each list with which the region agrees
+abbrev pub TellsOf : CacheConf → List ℕ → Plan → ℕ → Call → PlanAnswer → Type 0
+TellsOf conf words plan now call told = (list : List Entry) → Agrees conf words list → Tells conf words plan now told (answer conf list now call)
