@@ -1,5 +1,5 @@
 -- An entry comes in front of the list: the words after each step of an add.
-use Rattle.std.proofs.Common.{◌≡◌, ◌≢◌, ◌⊎◌, inl, inr, ℕ, ◌+◌, ◌*◌, ◌^◌, ◌<◌, ◌≤◌, Bool, true, false, cond, nat_le, nat_lt, List, [], ◌∷◌, ◌++◌, drop, length, refl, sym, ap, ◌∙◌, subst, arith}
+use Rattle.std.proofs.Common.{◌≡◌, ◌≢◌, ◌⊎◌, inl, inr, ℕ, ◌+◌, ◌*◌, ◌^◌, ◌<◌, ◌≤◌, true, false, cond, nat_le, nat_lt, List, [], ◌∷◌, ◌++◌, drop, length, refl, sym, ◌∙◌, subst, arith}
 use Rattle.std.proofs.lemmas.Bool.{and_from, le-leb, lt-ltb}
 use Rattle.std.proofs.lemmas.List.{length-append}
 use Rattle.uw_model.specs.declared.conf.CacheConf.{CacheConf}

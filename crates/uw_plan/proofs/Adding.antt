@@ -1,21 +1,20 @@
 -- An entry comes in front of the list with which a region agrees.
-use Rattle.std.proofs.Common.{◌≡◌, ◌≢◌, ◌⊎◌, ⊎_elim, inl, inr, ℕ, zero, suc, ◌+◌, ◌-◌, ◌*◌, ◌<◌, ◌≤◌, ◌||◌, ◌&&◌, ◌↔◌, Bool, true, false, not, cond, nat_le, nat_lt, List, [], ◌∷◌, drop, length, refl, sym, ap, ◌∙◌, subst, arith}
-use Rattle.std.proofs.lemmas.Bool.{cases_eq, cases_lt, false_from_ne_true}
+use Rattle.std.proofs.Common.{◌≡◌, ⊎_elim, inl, inr, ℕ, zero, suc, ◌+◌, ◌*◌, ◌<◌, ◌≤◌, ◌||◌, ◌&&◌, ◌↔◌, Bool, true, false, not, cond, nat_le, List, [], ◌∷◌, length, refl, sym, ap, ◌∙◌, subst, arith}
+use Rattle.std.proofs.lemmas.Bool.{cases_eq, cases_lt}
 use Rattle.std.proofs.lemmas.Bool.Decides.{nat_tests}
 use Rattle.std.specs.List.{list_all}
 use Rattle.uw_model.specs.declared.conf.CacheConf.{CacheConf}
 use Rattle.uw_model.specs.declared.entries.Entry.{Entry}
-use Rattle.uw_model.specs.Entries.{IsEntry, IsState, covers, span}
+use Rattle.uw_model.specs.Entries.{IsState, covers, span}
 use Rattle.uw_model.specs.Layout.{bitmap_words}
 use Rattle.uw_model.specs.Placement.{is_clear_of}
 use Rattle.uw_words.specs.declared.shape.Shape.{Shape}
-use Rattle.uw_words.specs.Shapes.{IsShape}
 use Rattle.uw_words.specs.Numbers.{AreDistinct, IsNoneOf, IsOneOf, without_number}
 use Rattle.uw_words.proofs.Links.{walk_short}
 use Rattle.uw_words.proofs.Numbers.{not_none}
 use Rattle.uw_bitmap.specs.Bits.{is_in_run}
 use Rattle.uw_bitmap.proofs.Runs.{before_run, behind_run, in_run}
-use Rattle.uw_chains.specs.Chains.{IsChains, item_chain, with_chain}
+use Rattle.uw_chains.specs.Chains.{item_chain, with_chain}
 use Rattle.uw_chains.proofs.Places.{with_other, with_same}
 use Rattle.uw_plan.specs.Parts.{HoldEntries, HoldsEntry, HoldsParts, Parts}
 use Rattle.uw_plan.specs.Agreement.{AgreesAs, FitsList, is_covered}

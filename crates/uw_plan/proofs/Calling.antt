@@ -1,15 +1,14 @@
 -- A region that nothing is planned for, and the outcome of each call on it.
-use Rattle.std.proofs.Common.{◌≡◌, ◌≢◌, ◌⊎◌, inl, inr, ℕ, ◌+◌, ◌*◌, ◌<◌, ◌≤◌, ◌==◌, Bool, true, false, cond, not, List, [], ◌∷◌, filter, length, Option, None, Some, is_some, ℤ, pos, refl, sym, ap, ◌∙◌, subst, arith}
+use Rattle.std.proofs.Common.{◌≡◌, inl, inr, ℕ, ◌+◌, ◌≤◌, ◌==◌, Bool, true, false, cond, not, List, ◌∷◌, filter, length, Option, None, Some, is_some, ℤ, refl, sym, ap, ◌∙◌, subst, arith}
 use Rattle.std.proofs.lemmas.Bool.{cases_Bool, cond-false, cond-true}
 use Rattle.uw_model.specs.declared.conf.CacheConf.{CacheConf}
 use Rattle.uw_model.specs.declared.entries.Entry.{Entry}
-use Rattle.uw_model.specs.declared.calls.Answer.{Answer}
 use Rattle.uw_model.specs.declared.calls.Call.{Call}
 use Rattle.uw_model.specs.declared.calls.Call.TheVariants as calls
 use Rattle.uw_model.specs.declared.calls.Answer.TheVariants as answers
-use Rattle.uw_model.specs.Calls.{Outcome, alive_at, answer, deleted, got, is_bad_key, is_no_number, next_state, number_at, number_of, outcome, refused, value_answer, without}
+use Rattle.uw_model.specs.Calls.{Outcome, alive_at, answer, deleted, got, is_bad_key, is_no_number, next_state, number_at, number_of, outcome, refused, without}
 use Rattle.uw_model.specs.Entries.{IsCacheConf}
-use Rattle.uw_model.specs.Layout.{key_words, plan_room, value_words, words_of}
+use Rattle.uw_model.specs.Layout.{key_words, value_words, words_of}
 use Rattle.uw_words.specs.declared.shape.Shape.{Shape}
 use Rattle.uw_words.specs.Plans.{Plan, region}
 use Rattle.uw_words.specs.Numbers.{AreDistinct}

@@ -1,5 +1,5 @@
 -- What steps cost together, and how many words are planned by them at most.
-use Rattle.std.proofs.Common.{◌≡◌, ◌≢◌, ◌⊎◌, inl, inr, ℕ, suc, ◌+◌, ◌*◌, ◌-◌, ◌/◌, ◌<◌, ◌≤◌, ◌&&◌, nat_le, nat_lt, Bool, true, false, not, List, [], ◌∷◌, ◌++◌, map, filter, length, Option, None, Some, refl, sym, ap, ◌∙◌, subst, arith}
+use Rattle.std.proofs.Common.{◌≡◌, inl, inr, ℕ, ◌+◌, ◌<◌, ◌≤◌, nat_le, nat_lt, Bool, true, not, List, [], ◌∷◌, ◌++◌, filter, length, None, Some, refl, sym, ap, ◌∙◌, subst, arith}
 use Rattle.std.proofs.lemmas.Bool.{and_from, cases_Bool, cases_eq, le-leb, lt-ltb}
 use Rattle.std.proofs.lemmas.Bool.Decides.{nat_tests}
 use Rattle.std.proofs.lemmas.List.{length-map}
@@ -7,7 +7,7 @@ use Rattle.std.proofs.lemmas.List.Filters.{length-filter_both}
 use Rattle.uw_words.specs.declared.shape.Shape.{Shape}
 use Rattle.uw_words.specs.Shapes.{IsShape, bit_words, shape_words}
 use Rattle.uw_words.specs.Plans.{Plan, planned}
-use Rattle.uw_words.specs.Numbers.{AreDistinct, IsNoneOf, IsOneOf, places_from, without_number}
+use Rattle.uw_words.specs.Numbers.{AreDistinct, IsOneOf, places_from, without_number}
 use Rattle.uw_words.specs.Parts.{places_of, with_places}
 use Rattle.uw_words.proofs.Growth.{row_has, row_length, with_places-append}
 use Rattle.uw_words.proofs.Numbers.{not_none}
@@ -97,10 +97,10 @@ module _ (shape : Shape) where
     few_bits places once all =
         let few : length places ≤ length (places_from shape.bitmap (bit_words shape.n_blocks)) =
         distinct_few places (places_from shape.bitmap (bit_words shape.n_blocks)) once (λ at one.
-            let passes : bit at ≡ true = all at one in
-            let low : shape.bitmap ≤ at = grind (arith, nat_tests) in
-            let high : at < shape.chains = grind (arith, nat_tests) in
-            row_has shape.bitmap (bit_words shape.n_blocks) at low (omega (arith, high, is.chains))) in
+        let passes : bit at ≡ true = all at one in
+        let low : shape.bitmap ≤ at = grind (arith, nat_tests) in
+        let high : at < shape.chains = grind (arith, nat_tests) in
+        row_has shape.bitmap (bit_words shape.n_blocks) at low (omega (arith, high, is.chains))) in
         omega (arith, few, row_length shape.bitmap (bit_words shape.n_blocks))
 
     pub bits_within : (plan : Plan) → AreDistinct (bit_places shape plan) → length (bit_places shape plan) ≤ bit_words shape.n_blocks

@@ -1,9 +1,9 @@
 -- A free item is taken, its record is put, it joins its lists, and one more is in use.
-use Rattle.std.proofs.Common.{◌≡◌, ◌≢◌, ◌⊎◌, inl, inr, ℕ, ◌+◌, ◌*◌, ◌<◌, ◌≤◌, Bool, true, List, [], ◌∷◌, ◌++◌, drop, slice_get, Option, Some, None, length, refl, sym, ap, ◌∙◌, subst, arith}
+use Rattle.std.proofs.Common.{◌≡◌, ◌≢◌, inl, inr, ℕ, ◌+◌, ◌*◌, ◌<◌, ◌≤◌, true, List, [], ◌∷◌, ◌++◌, drop, slice_get, Some, None, length, refl, sym, ap, ◌∙◌, subst, arith}
 use Rattle.uw_words.specs.declared.shape.Shape.{Shape}
 use Rattle.uw_words.specs.Shapes.{IsShape}
-use Rattle.uw_words.specs.Plans.{Names, Plan}
-use Rattle.uw_words.specs.Parts.{GrewAt, HasRoom, seen}
+use Rattle.uw_words.specs.Plans.{Plan}
+use Rattle.uw_words.specs.Parts.{GrewAt, seen}
 use Rattle.uw_words.specs.Numbers.{IsNoneOf, IsOneOf}
 use Rattle.uw_words.specs.Records.{HoldsKey}
 use Rattle.uw_words.specs.Walks.{link_of}
@@ -14,14 +14,14 @@ use Rattle.uw_recency.proofs.Lists.{front_own}
 use Rattle.uw_chains.specs.Chains.{IsChains, item_chain, link_places, with_chain}
 use Rattle.uw_items.specs.declared.records.Fields.{Fields}
 use Rattle.uw_items.specs.Items.{HoldsFields, LieInBlocks, field_places, key_places, value_places}
-use Rattle.uw_items.specs.FreeList.{IsFreeList, take_places}
+use Rattle.uw_items.specs.FreeList.{take_places}
 use Rattle.uw_items.proofs.FreeItems.{take_count}
 use Rattle.uw_items.proofs.Held.{fields_off_key, key_own, key_same, value_within, words_within}
 use Rattle.uw_plan.specs.Parts.{HoldsParts, Parts}
-use Rattle.uw_plan.specs.EntrySteps.{GrewInZones, IsNewIn, counted_parts, free_zones, list_zones, listed_parts, taken_parts, zone_of}
+use Rattle.uw_plan.specs.EntrySteps.{GrewInZones, counted_parts, free_zones, list_zones, listed_parts, zone_of}
 use Rattle.uw_plan.proofs.Zones.{none_of}
 use Rattle.uw_plan.proofs.Steps.{count_own, counted, recency_own}
-use Rattle.uw_plan.proofs.Joining.{link_zone, linked, pushed, take_own, taken, with_item_short}
+use Rattle.uw_plan.proofs.Joining.{link_zone, linked, pushed, take_own, with_item_short}
 use Rattle.uw_plan.proofs.Recording.{field_own}
 
 -- the first of some numbers

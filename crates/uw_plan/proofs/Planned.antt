@@ -1,5 +1,5 @@
 -- What is planned for a call, by the steps that were taken.
-use Rattle.std.proofs.Common.{◌≡◌, ◌≢◌, ◌⊎◌, inl, inr, ℕ, suc, ◌+◌, ◌*◌, ◌-◌, ◌<◌, ◌≤◌, Bool, true, false, not, List, [], ◌∷◌, ◌++◌, filter, length, Option, None, Some, refl, sym, ap, ◌∙◌, subst, arith}
+use Rattle.std.proofs.Common.{◌≡◌, ◌⊎◌, inl, inr, ℕ, ◌+◌, ◌*◌, ◌≤◌, not, List, [], ◌∷◌, ◌++◌, filter, length, Option, None, Some, sym, ap, ◌∙◌, subst, arith}
 use Rattle.uw_model.specs.declared.conf.CacheConf.{CacheConf}
 use Rattle.uw_model.specs.declared.entries.Entry.{Entry}
 use Rattle.uw_model.specs.declared.calls.Call.{Call}
@@ -7,14 +7,14 @@ use Rattle.uw_model.specs.Entries.{IsCacheConf, IsEntry}
 use Rattle.uw_model.specs.Calls.{next_state}
 use Rattle.uw_model.specs.Layout.{plan_room}
 use Rattle.uw_words.specs.declared.shape.Shape.{Shape}
-use Rattle.uw_words.specs.Shapes.{IsShape, bit_words}
+use Rattle.uw_words.specs.Shapes.{bit_words}
 use Rattle.uw_words.specs.Plans.{Plan, region, through}
 use Rattle.uw_words.specs.Numbers.{AreDistinct, IsOneOf}
 use Rattle.uw_words.specs.Texts.{text_words}
 use Rattle.uw_words.specs.Parts.{places_of, seen, with_places}
 use Rattle.uw_plan.specs.Regions.{shape_of}
 use Rattle.uw_plan.specs.Agreement.{Agrees, AgreesAs}
-use Rattle.uw_plan.specs.Bounds.{bitmap_places, lost_entries, most_planned, most_writes, runs_of, written_entry}
+use Rattle.uw_plan.specs.Bounds.{bitmap_places, lost_entries, most_planned, runs_of, written_entry}
 use Rattle.uw_plan.specs.Plans.{Costs, bit_places, count_of_others, is_bit_place}
 use Rattle.uw_plan.specs.CallSteps.{Enters, IsEntryOf, Leaves}
 use Rattle.uw_plan.specs.CallPlanSteps.{IsPlanned}

@@ -1,10 +1,9 @@
 -- The words that are planned for a call are right for it.
-use Rattle.std.proofs.Common.{◌≡◌, ◌≢◌, ◌⊎◌, inl, inr, ℕ, ◌+◌, ◌*◌, ◌<◌, ◌≤◌, List, [], ◌∷◌, All, map, length, Option, None, unwrap_or, refl, sym, ap, ◌∙◌, subst, arith}
+use Rattle.std.proofs.Common.{◌≡◌, ◌≢◌, ◌⊎◌, inl, inr, ℕ, ◌<◌, ◌≤◌, List, [], ◌∷◌, All, length, Option, None, unwrap_or, refl, sym, ap, ◌∙◌, subst, arith}
 use Rattle.std.proofs.lemmas.Bool.{cases_eq}
 use Rattle.std.proofs.lemmas.Bool.Decides.{nat_tests}
 use Rattle.std.proofs.lemmas.List.Elements.{All-cons, All-nil}
 use Rattle.std.proofs.lemmas.List.Kept.{AllPairs-cons}
-use Rattle.std.specs.List.{AllPairs}
 use Rattle.uw_model.specs.declared.conf.CacheConf.{CacheConf}
 use Rattle.uw_model.specs.declared.entries.Entry.{Entry}
 use Rattle.uw_model.specs.declared.calls.Call.{Call}
@@ -13,7 +12,7 @@ use Rattle.uw_model.specs.Calls.{answer, next_state}
 use Rattle.uw_words.specs.declared.shape.Shape.{Shape}
 use Rattle.uw_words.specs.Shapes.{shape_words}
 use Rattle.uw_words.specs.Plans.{HasDistinctPlaces, Plan, planned, region, through}
-use Rattle.uw_words.specs.Numbers.{AreDistinct, IsNoneOf, IsOneOf}
+use Rattle.uw_words.specs.Numbers.{AreDistinct, IsOneOf}
 use Rattle.uw_words.specs.Parts.{places_of, seen}
 use Rattle.uw_words.proofs.Numbers.{one_apart}
 use Rattle.uw_intent.specs.declared.frame.WordWrite.{WordWrite}

@@ -1,5 +1,5 @@
 -- The record of a new item is written: what stays, since the item is on no list and its blocks are its own.
-use Rattle.std.proofs.Common.{◌≡◌, ◌≢◌, ◌⊎◌, inl, inr, ℕ, ◌+◌, ◌-◌, ◌*◌, ◌/◌, ◌%◌, ◌<◌, ◌≤◌, ◌==◌, ◌||◌, min, max, nat_le, Bool, true, false, List, [], ◌∷◌, ◌++◌, length, refl, sym, ap, ◌∙◌, subst, arith}
+use Rattle.std.proofs.Common.{◌≡◌, ◌≢◌, ◌⊎◌, inl, inr, ℕ, ◌+◌, ◌-◌, ◌*◌, ◌/◌, ◌%◌, ◌<◌, ◌≤◌, ◌==◌, ◌||◌, min, max, nat_le, Bool, true, List, [], ◌∷◌, ◌++◌, length, refl, sym, ap, ◌∙◌, subst, arith}
 use Rattle.std.proofs.lemmas.Bool.{le-leb, or_left}
 use Rattle.std.proofs.lemmas.Nat.{mul-le}
 use Rattle.std.proofs.Math.Nat.{div-lt_iff_lt-mul, le-div_iff_mul-le, mul_comm, mul_assoc}
@@ -17,7 +17,7 @@ use Rattle.uw_words.proofs.Links.{item_within, same_item, walk_short}
 use Rattle.uw_words.proofs.Numbers.{not_none}
 use Rattle.uw_chains.specs.Chains.{IsChains, IsChainsKeyPlace, IsChainsPlace, item_chain}
 use Rattle.uw_chains.proofs.Places.{depend}
-use Rattle.uw_items.specs.Items.{IsRecordPlace, LieInBlocks, block_place, field_places, key_places, value_places}
+use Rattle.uw_items.specs.Items.{IsRecordPlace, LieInBlocks, field_places, key_places, value_places}
 use Rattle.uw_items.proofs.Held.{key_own, key_same, value_run, value_same, value_within, words_within}
 use Rattle.uw_plan.specs.Parts.{HoldEntries, HoldsEntry, HoldsParts, Parts}
 use Rattle.uw_plan.specs.EntrySteps.{record_places, zone_of}

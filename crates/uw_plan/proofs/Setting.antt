@@ -10,9 +10,9 @@ use Rattle.uw_model.specs.declared.calls.Call.{Call}
 use Rattle.uw_model.specs.declared.calls.MathOp.{MathOp}
 use Rattle.uw_model.specs.declared.calls.Call.TheVariants as calls
 use Rattle.uw_model.specs.declared.calls.Answer.TheVariants as answers
-use Rattle.uw_model.specs.Calls.{Outcome, alive_at, answer, bytes_of_number, dies_at, dies_of_number, is_bad_key, is_in_range, is_no_number, is_too_long, is_zero_division, number_at, number_outcome, outcome, placed, refused, result_of, without, written}
+use Rattle.uw_model.specs.Calls.{Outcome, alive_at, answer, bytes_of_number, dies_at, dies_of_number, is_bad_key, is_in_range, is_no_number, is_too_long, is_zero_division, number_at, number_outcome, outcome, placed, refused, result_of, written}
 use Rattle.uw_model.specs.Entries.{IsCacheConf, max_value, new_entry, span}
-use Rattle.uw_model.specs.Placement.{first_run, room}
+use Rattle.uw_model.specs.Placement.{first_run}
 use Rattle.uw_model.proofs.NextStateLemmas.{fit_of, number_fit}
 use Rattle.uw_words.specs.declared.shape.Shape.{Shape}
 use Rattle.uw_words.specs.Plans.{Plan}

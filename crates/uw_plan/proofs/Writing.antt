@@ -1,5 +1,5 @@
 -- An entry is written in front of the list, in room that is made for it.
-use Rattle.std.proofs.Common.{◌≡◌, ◌≢◌, ◌⊎◌, inl, inr, ℕ, suc, ◌+◌, ◌*◌, ◌<◌, ◌≤◌, Bool, true, false, cond, not, List, [], ◌∷◌, ◌++◌, find, length, Option, None, Some, unwrap_or, refl, sym, ap, ◌∙◌, subst, arith}
+use Rattle.std.proofs.Common.{◌≡◌, inl, inr, ℕ, ◌+◌, ◌*◌, true, false, cond, not, List, [], ◌∷◌, ◌++◌, length, None, Some, unwrap_or, refl, sym, ap, ◌∙◌, subst, arith}
 use Rattle.std.proofs.lemmas.Bool.{and_from, cases_Bool, cond-false, not_from_false}
 use Rattle.std.proofs.lemmas.List.{append-nil}
 use Rattle.std.proofs.lemmas.Slice.Eq.{bytes_eq-Decides}
@@ -7,7 +7,7 @@ use Rattle.std.specs.Str.{bytes_eq}
 use Rattle.uw_model.specs.declared.conf.CacheConf.{CacheConf}
 use Rattle.uw_model.specs.declared.entries.Entry.{Entry}
 use Rattle.uw_model.specs.declared.calls.Call.TheVariants as calls
-use Rattle.uw_model.specs.Entries.{IsApart, IsApartFrom, IsCacheConf, IsEntry, IsState, new_entry, span}
+use Rattle.uw_model.specs.Entries.{IsApart, IsApartFrom, IsCacheConf, IsState, new_entry, span}
 use Rattle.uw_model.specs.declared.calls.Answer.TheVariants as answers
 use Rattle.uw_model.specs.Calls.{Outcome, dies_at, is_bad_key, is_too_long, next_state, outcome, placed, refused, without, written}
 use Rattle.uw_model.specs.KeySteps.{lacks}
@@ -26,7 +26,7 @@ use Rattle.uw_plan.specs.Regions.{shape_of}
 use Rattle.uw_plan.specs.Parts.{HoldEntries}
 use Rattle.uw_plan.specs.Agreement.{AgreesAs}
 use Rattle.uw_plan.specs.Bounds.{runs_of}
-use Rattle.uw_plan.specs.Plans.{Costs, HasRoomFor, IsInUse, IsPaired, item_run_places}
+use Rattle.uw_plan.specs.Plans.{Costs, HasRoomFor, IsInUse, item_run_places}
 use Rattle.uw_plan.specs.CallSteps.{Enters, HasSpare, HasSpareFor, IsItemOf, Leaves, entry_at}
 use Rattle.uw_plan.proofs.Agreeing.{entries_once}
 use Rattle.uw_plan.proofs.Shapes.{shape_of_conf}

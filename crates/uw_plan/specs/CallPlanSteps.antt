@@ -1,27 +1,19 @@
 -- The words that are planned for a call (own rule).
-use Rattle.std.specs.Prelude.{◌≡◌, ℕ, ◌+◌, ◌*◌, ◌<◌, ◌≤◌, List, [], map, length, Bool, true, false, Option, MatchOption, ℤ}
+use Rattle.std.specs.Prelude.{◌≡◌, ℕ, ◌+◌, ◌*◌, ◌≤◌, List, [], length, true, false, Option, MatchOption, ℤ}
 use Rattle.uw_model.specs.declared.conf.CacheConf.{CacheConf}
 use Rattle.uw_model.specs.declared.entries.Entry.{Entry}
 use Rattle.uw_model.specs.declared.calls.Call.{Call}
-use Rattle.uw_model.specs.declared.calls.Answer.{Answer}
-use Rattle.uw_model.specs.declared.calls.Answer.TheVariants as answers
 use Rattle.uw_model.specs.Entries.{IsCacheConf}
-use Rattle.uw_model.specs.Calls.{answer, is_no_number, next_state, number_at}
+use Rattle.uw_model.specs.Calls.{is_no_number, next_state, number_at}
 use Rattle.uw_model.specs.Layout.{plan_room}
-use Rattle.uw_model.specs.Placement.{alive_of}
-use Rattle.uw_words.specs.declared.shape.Shape.{Shape}
 use Rattle.uw_words.specs.Shapes.{shape_words}
 use Rattle.uw_words.specs.Numbers.{AreDistinct, IsOneOf}
 use Rattle.uw_words.specs.Parts.{places_of, seen}
-use Rattle.uw_words.specs.Plans.{Plan, region}
-use Rattle.uw_words.specs.Walks.{item_word}
+use Rattle.uw_words.specs.Plans.{Plan}
 use Rattle.uw_intent.specs.RedoRecord.{IsTarget}
-use Rattle.uw_items.specs.Items.{LieInBlocks, held_value}
 use Rattle.uw_plan.specs.Agreement.{Agrees, AgreesAs}
 use Rattle.uw_plan.specs.Bounds.{most_writes}
 use Rattle.uw_plan.specs.Regions.{frame_of, shape_of}
-use Rattle.uw_plan.specs.declared.plan.PlanAnswer.{PlanAnswer}
-use Rattle.uw_plan.specs.declared.plan.PlanAnswer.TheVariants as told
 
 -- the words that are planned for a call on a list, from an overlay on that plans nothing: read through them a region agrees
 -- with the next list; they are no more than the redo record has room for, their places are once each and may be written, and

@@ -31,13 +31,7 @@ pub enum PlanAnswer {
 }
 
 // The same with what the planned words are in place of what their commit does.
-fn planned(
-    ram: &Ram,
-    conf: &CacheConf,
-    moment: u64,
-    call: &Call,
-    over: &mut Overlay,
-) -> PlanAnswer
+fn planned(ram: &Ram, conf: &CacheConf, moment: u64, call: &Call, over: &mut Overlay) -> PlanAnswer
     requires { IsUnplanned conf.now ram.now over.old }
     ensures room { over.new.room ≡ over.old.room }
     ensures plan { PlansFor conf.now ram.now over.new moment call.now }
@@ -74,15 +68,8 @@ fn planned(
         Call::Clear => PlanAnswer::Ready(plan_clear(ram, conf, over)),
         Call::Num { key } => PlanAnswer::Ready(plan_num(ram, conf, over, moment, key.as_slice())),
         Call::Math { op, key, by, ttl } => {
-            let reckoning = Reckoning::new(*op, *by, *ttl);
-            PlanAnswer::Ready(plan_math(
-                ram,
-                conf,
-                over,
-                moment,
-                key.as_slice(),
-                reckoning,
-            ))
+            let reckoning = Reckoning::new(op, by, ttl);
+            PlanAnswer::Ready(plan_math(ram, conf, over, moment, key.as_slice(), reckoning))
         }
         Call::Keys => PlanAnswer::KeyList,
         Call::Sweep => PlanAnswer::Ready(plan_sweep(ram, conf, over, moment)),

@@ -14,13 +14,7 @@ use uw_model::{Answer, CacheConf, is_bad_key};
 use uw_words::{Overlay, Ram};
 
 /// Plans that the alive entry of a key leaves the list.
-pub fn plan_del(
-    ram: &Ram,
-    conf: &CacheConf,
-    over: &mut Overlay,
-    moment: u64,
-    key: &[u8],
-) -> Answer
+pub fn plan_del(ram: &Ram, conf: &CacheConf, over: &mut Overlay, moment: u64, key: &[u8]) -> Answer
     requires { IsUnplanned conf.now ram.now over.old }
     ensures room { over.new.room ≡ over.old.room }
     ensures plan { PlansFor conf.now ram.now over.new moment (calls.Del key.now) }

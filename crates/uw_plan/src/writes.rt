@@ -118,10 +118,14 @@ pub struct Reckoning {
 
 impl Reckoning {
     /// By an operation, an amount, and a time to live.
-    pub fn new(op: MathOp, by: i64, ttl: u64) -> Reckoning
-        ensures { result ≡ record { op = op; by = by; ttl = ttl } }
+    pub fn new(op: &MathOp, by: &i64, ttl: &u64) -> Reckoning
+        ensures { result ≡ record { op = op.now; by = by.now; ttl = ttl.now } }
     {
-        Reckoning { op, by, ttl }
+        Reckoning {
+            op: *op,
+            by: *by,
+            ttl: *ttl,
+        }
     }
 }
 

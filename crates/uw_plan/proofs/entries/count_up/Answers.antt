@@ -1,4 +1,4 @@
-use Rattle.std.proofs.Common.{inl, length, ◌+◌, ◌≤◌, arith}
+use Rattle.std.proofs.Common.{inl, arith}
 use Rattle.uw_plan.proofs.Entering.{counted_up, grew_up}
 use Rattle.uw_plan.proofs.entries.count_up.Goals as goal
 

@@ -1,4 +1,4 @@
-use Rattle.std.proofs.Common.{◌+◌, ◌≤◌, ◌∙◌, sym, arith}
+use Rattle.std.proofs.Common.{◌∙◌, sym, arith}
 use Rattle.uw_words.specs.Parts.{seen}
 use Rattle.uw_words.proofs.Growth.{spare_room}
 use Rattle.uw_items.specs.FreeList.{take_places}

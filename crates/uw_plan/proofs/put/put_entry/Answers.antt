@@ -1,4 +1,4 @@
-use Rattle.std.proofs.Common.{◌≡◌, ◌∙◌, ◌+◌, ◌∷◌, ℕ, List, length, None, sym, refl, subst}
+use Rattle.std.proofs.Common.{◌≡◌, ◌∙◌, ◌+◌, ℕ, length, None, refl, subst}
 use Rattle.uw_model.specs.declared.entries.Entry.{Entry}
 use Rattle.uw_model.specs.Calls.{without}
 use Rattle.uw_model.specs.Placement.{room}
@@ -40,9 +40,9 @@ add_entry-requires-clause-list c =
     let list = without c.args.key.now some.1 in
     let removed = c.remove_key.ensures some.0 some.1 some.2 in
     let made = subst (HasMade c.args.conf.now c.args.ram.now c.remove_key.new.over c.make_room.new.over list c.args.moment c.in-Some.first) c.span_of.ensures
-        (c.in-Some.ensures.list removed.items list removed.agrees) in
+    (c.in-Some.ensures.list removed.items list removed.agrees) in
     let state = put_state c.args.conf.now c.requires.conf c.args.ram.now c.args.over.now c.remove_key.new.over some.0 some.1 some.2 c.args.key.now c.args.value.now c.args.dies c.args.moment
-        removed (c.requires.room some.0 some.1 some.2) c.requires.key c.requires.value c.make_room.new.over c.in-Some.first made in
+    removed (c.requires.room some.0 some.1 some.2) c.requires.key c.requires.value c.make_room.new.over c.in-Some.first made in
     (made.1.2.items, made.0, (made.1.2.agrees, state))
 
 pub add_entry-requires-clause-room : goal.add_entry-requires-clause-room
@@ -51,7 +51,7 @@ add_entry-requires-clause-room c =
     let list = without c.args.key.now some.1 in
     let removed = c.remove_key.ensures some.0 some.1 some.2 in
     let made = subst (HasMade c.args.conf.now c.args.ram.now c.remove_key.new.over c.make_room.new.over list c.args.moment c.in-Some.first) c.span_of.ensures
-        (c.in-Some.ensures.list removed.items list removed.agrees) in
+    (c.in-Some.ensures.list removed.items list removed.agrees) in
     put_room c.args.conf.now c.requires.conf c.args.ram.now c.args.over.now c.remove_key.new.over some.0 some.1 some.2 c.args.key.now c.args.value.now c.args.dies c.args.moment
     removed (c.requires.room some.0 some.1 some.2) c.requires.key c.requires.value c.make_room.new.over c.in-Some.first made
 
@@ -65,9 +65,9 @@ returns-clause-list c = λ items list held.
     let others = without c.args.key.now list in
     let removed = c.remove_key.ensures items list held in
     let made = subst (HasMade c.args.conf.now c.args.ram.now c.remove_key.new.over c.make_room.new.over others c.args.moment c.in-Some.first) c.span_of.ensures
-        (c.in-Some.ensures.list removed.items others removed.agrees) in
+    (c.in-Some.ensures.list removed.items others removed.agrees) in
     let state = put_state c.args.conf.now c.requires.conf c.args.ram.now c.args.over.now c.remove_key.new.over items list held c.args.key.now c.args.value.now c.args.dies c.args.moment
-        removed (c.requires.room items list held) c.requires.key c.requires.value c.make_room.new.over c.in-Some.first made in
+    removed (c.requires.room items list held) c.requires.key c.requires.value c.make_room.new.over c.in-Some.first made in
     let e : Entry = record { key = c.args.key.now; value = c.args.value.now; dies = c.args.dies; first = c.in-Some.first } in
     let added = c.add_entry.ensures.list made.1.2.items made.0 made.1.2.agrees e refl state in (
       made.0,

@@ -1,4 +1,4 @@
-use Rattle.std.proofs.Common.{◌≡◌, None, Option, refl, sym, ap, subst}
+use Rattle.std.proofs.Common.{Option, sym, ap, subst}
 use Rattle.uw_model.specs.declared.entries.Entry.{Entry}
 use Rattle.uw_model.specs.Calls.{is_no_number, number_at}
 use Rattle.uw_plan.specs.CallPlanSteps.{IsNumberAt}

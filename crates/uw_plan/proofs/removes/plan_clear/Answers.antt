@@ -1,4 +1,4 @@
-use Rattle.std.proofs.Common.{◌≤◌, refl, arith}
+use Rattle.std.proofs.Common.{refl, arith}
 use Rattle.uw_model.specs.declared.calls.Call.TheVariants as calls
 use Rattle.uw_plan.proofs.Planned.{planned_leaves}
 use Rattle.uw_plan.proofs.Calling.{has_entries, has_spare, region_length, seen_agrees}

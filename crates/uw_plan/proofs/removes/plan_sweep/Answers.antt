@@ -1,4 +1,4 @@
-use Rattle.std.proofs.Common.{◌≡◌, ◌∙◌, ◌≤◌, not, List, filter, length, pos, w64, refl, sym, ap, arith}
+use Rattle.std.proofs.Common.{◌∙◌, ◌≤◌, not, filter, length, pos, w64, refl, ap, arith}
 use Rattle.std.proofs.lemmas.Int.{to_z_pos}
 use Rattle.uw_model.specs.declared.entries.Entry.{Entry}
 use Rattle.uw_model.specs.declared.calls.Answer.TheVariants as answers
