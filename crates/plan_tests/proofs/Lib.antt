@@ -1,1 +1,2 @@
+pub mod SmallSteps
 pub mod TwinLemmas

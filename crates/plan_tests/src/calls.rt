@@ -1,7 +1,7 @@
 // Each call of a cache on a region and on a plain list, side by side.
 ghost use Rattle.plan_tests.specs.Twins.{AreTwins};
 
-use crate::regions::small_cache;
+use crate::small::small_cache;
 use crate::twins::Twin;
 use std::alloc::Global;
 use std::test::Fail;

@@ -4,5 +4,9 @@
 #[cfg(test)]
 mod calls;
 #[cfg(test)]
+mod entries;
+#[cfg(test)]
 mod regions;
+#[cfg(test)]
+mod small;
 pub mod twins;

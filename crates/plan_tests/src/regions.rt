@@ -1,11 +1,7 @@
 // Where the parts of a region stand, and the words of one without an entry.
-ghost use Rattle.uw_model.specs.Entries.{IsCacheConf};
-
-use std::alloc::Global;
+use crate::small::small_cache;
 use std::test::Fail;
-use uw_base::Bytes;
 use uw_intent::Frame;
-use uw_model::CacheConf;
 use uw_plan::{blank_region, frame_of, shape_of, words_of};
 use uw_words::Shape;
 
@@ -20,24 +16,6 @@ const BLANK: [u64; 61] = [
     0, 0, 0, 0, 0, 0, 0, 0, 0, // item 3: the last one
     0, 0, 0, 0, // blocks
 ];
-
-/// Four items of eight bytes each, on four chains.
-pub fn small_cache(alloc: Global) -> CacheConf
-    ensures { IsCacheConf result }
-{
-    CacheConf {
-        name: Bytes::new(alloc),
-        items: 4,
-        blocksize: 8,
-        blocks: 4,
-        keysize: 8,
-        chains: 4,
-        bitmap: false,
-        purge_lru: false,
-        sweep_on_full: false,
-        clear_on_full: false,
-    }
-}
 
 #[test]
 fn the_parts_of_a_region_follow_one_another(rt: HostRuntime) {
