@@ -13,7 +13,7 @@ use Rattle.uw_plan.specs.Agreement.{Agrees, AgreesAs}
 use Rattle.uw_plan.specs.Plans.{HasRoomFor, IsInUse, IsPaired, item_run_places}
 use Rattle.uw_plan.specs.Regions.{shape_of}
 use Rattle.uw_plan.proofs.OneByOne.{run_of}
-use Rattle.plan_tests.specs.Small.{first_entry, second_entry, small_conf, third_entry}
+use Rattle.plan_tests.specs.SmallSteps.{first_entry, second_entry, small_conf, third_entry}
 
 pub small_is : IsCacheConf small_conf
 small_is = record {

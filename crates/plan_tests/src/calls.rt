@@ -203,7 +203,11 @@ const RUNS: &[(u64, What, Want)] = &[
     (0, What::Del(b"a"), Want::Done),
     (0, What::Del(b"c"), Want::Done),
     // three blocks stand together behind d alone
-    (0, What::Set(b"e", b"012345670123456701234567", 0), Want::Done),
+    (
+        0,
+        What::Set(b"e", b"012345670123456701234567", 0),
+        Want::Done,
+    ),
     (0, What::Set(b"f", b"0123456701234567", 0), Want::Done),
     (0, What::Update(b"d", b"0123456789", 0), Want::Full),
     (0, What::Get(b"d"), Want::Value(b"d")),
@@ -217,7 +221,11 @@ const RUNS: &[(u64, What, Want)] = &[
     (0, What::Keys, Want::Keys(&[b"e", b"f"])),
     (
         0,
-        What::Set(b"g", b"0123456701234567012345670123456701234567012345678", 0),
+        What::Set(
+            b"g",
+            b"0123456701234567012345670123456701234567012345678",
+            0,
+        ),
         Want::TooLong,
     ),
     (0, What::Clear, Want::Done),
@@ -246,10 +254,18 @@ const PURGES: &[(u64, What, Want)] = &[
     (9, What::Keys, Want::Keys(&[b"e", b"a", b"d", b"c"])),
     (9, What::Exists(b"c"), Want::Flag(true)),
     // a stands at block 0, e at b's, 1, c at 2, d at 3: without c and d four blocks are free together
-    (9, What::Set(b"f", b"01234567012345670123456701234567", 0), Want::Done),
+    (
+        9,
+        What::Set(b"f", b"01234567012345670123456701234567", 0),
+        Want::Done,
+    ),
     (9, What::Keys, Want::Keys(&[b"f", b"e", b"a"])),
     (9, What::Get(b"e"), Want::Value(b"e")),
-    (9, What::Get(b"f"), Want::Value(b"01234567012345670123456701234567")),
+    (
+        9,
+        What::Get(b"f"),
+        Want::Value(b"01234567012345670123456701234567"),
+    ),
     (9, What::Sweep, Want::Number(0)),
     (9, What::Update(b"f", b"f", 0), Want::Done),
     (9, What::Keys, Want::Keys(&[b"f", b"e", b"a"])),
@@ -279,7 +295,10 @@ const CLEARS: &[(u64, What, Want)] = &[
 #[test]
 fn each_call_answers_as_the_list_does(rt: HostRuntime) -> Result<(), Fail> {
     let mut twin = Twin::new(rt.alloc(), small_cache(rt.alloc()))?;
-    assert_eq!(rt; first_unwanted(rt.alloc(), &mut twin, ONE_BLOCK_EACH)?, None);
+    assert_eq!(rt;
+        first_unwanted(rt.alloc(), &mut twin, ONE_BLOCK_EACH)?,
+        None
+    );
     Ok(())
 }
 

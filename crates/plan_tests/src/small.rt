@@ -1,7 +1,7 @@
 // The small cache of the tests.
 ghost use Rattle.std.specs.Prelude.{◌≡◌};
 ghost use Rattle.uw_model.specs.Entries.{IsCacheConf};
-ghost use Rattle.plan_tests.specs.Small.{small_conf};
+ghost use Rattle.plan_tests.specs.SmallSteps.{small_conf};
 
 use std::alloc::Global;
 use uw_base::Bytes;

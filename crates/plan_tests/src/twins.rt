@@ -38,33 +38,20 @@ impl Twin {
     }
 
     /// What the region answers, after its words are committed, and what the list answers: the same.
-    pub fn call(&mut self, alloc: Global, moment: u64, call: &Call) -> Result<(Answer, Answer), Memory>
+    pub fn call(
+        &mut self,
+        alloc: Global,
+        moment: u64,
+        call: &Call,
+    ) -> Result<(Answer, Answer), Memory>
         requires { AreTwins self.old }
         ensures twins { OnOk result (AreTwins self.new) }
         ensures same { IfOk result (λ both. both.0 ≡ both.1) }
     {
-        let planned = plan_call(
-            &self.ram,
-            &self.conf,
-            moment,
-            call,
-            &mut self.over,
-        );
-        let answer = told(
-            alloc,
-            &self.ram,
-            &self.conf,
-            &self.over,
-            moment,
-            planned,
-        )?;
+        let planned = plan_call(&self.ram, &self.conf, moment, call, &mut self.over);
+        let answer = told(alloc, &self.ram, &self.conf, &self.over, moment, planned)?;
         let frame = frame_of(&shape_of(&self.conf));
-        let _ = commit(
-            &mut self.ram,
-            &frame,
-            &self.over,
-            &mut Immortal::new(),
-        );
+        let _ = commit(&mut self.ram, &frame, &self.over, &mut Immortal::new());
         self.over.clear();
         let other = self.list.call(alloc, moment, call)?;
         Ok((answer, other))

@@ -14,7 +14,7 @@ use Rattle.uw_words.specs.Numbers.{IsOneOf}
 use Rattle.uw_words.specs.Parts.{with_place, with_places}
 use Rattle.uw_bitmap.specs.Bits.{run_places}
 use Rattle.uw_plan.specs.Regions.{shape_of}
-use Rattle.uw_plan.specs.Bounds.{bitmap_places, is_overwritten, is_same_entry, lost_entries, runs_of}
+use Rattle.uw_plan.specs.Bounds.{bitmap_places, is_overwritten, is_same_entry, lost_entries, all_run_places}
 use Rattle.uw_plan.specs.CallSteps.{IsEntryOf, LeaveOneByOne}
 use Rattle.uw_plan.proofs.Costing.{kept_named, once_each, one_of_places, place_here, place_later}
 use Rattle.uw_plan.proofs.Counting.{distinct_few}
@@ -184,9 +184,9 @@ module _ (conf : CacheConf) where
   abbrev run : Entry → List ℕ
   run e = run_places (shape_of conf) e.first (span conf e.value)
 
-  one_of_run : (list : List Entry) (at : ℕ) → IsOneOf (runs_of conf list) at → (e : Entry) × (IsEntryOf list e × IsOneOf (run e) at)
+  one_of_run : (list : List Entry) (at : ℕ) → IsOneOf (all_run_places conf list) at → (e : Entry) × (IsEntryOf list e × IsOneOf (run e) at)
   one_of_run [] at one = absurd one
-  one_of_run (e ∷ list) at one = elim (one_of_append (run e) (runs_of conf list) at one) [
+  one_of_run (e ∷ list) at one = elim (one_of_append (run e) (all_run_places conf list) at one) [
     | inl own ↦ (e, (inl refl, own))
     | inr later ↦ (let found = one_of_run list at later in (found.0, (inr found.1.0, found.1.1)))
   ]
@@ -200,10 +200,10 @@ module _ (conf : CacheConf) where
   late [] more at one = one
   late (first ∷ some) more at one = inr (late some more at one)
 
-  has_run : (list : List Entry) (e : Entry) (at : ℕ) → IsEntryOf list e → IsOneOf (run e) at → IsOneOf (runs_of conf list) at
+  has_run : (list : List Entry) (e : Entry) (at : ℕ) → IsEntryOf list e → IsOneOf (run e) at → IsOneOf (all_run_places conf list) at
   has_run [] e at one own = absurd one
-  has_run (first ∷ list) e at (inl here) own = early (run first) (runs_of conf list) at (subst (λ (o : Entry). IsOneOf (run o) at) (sym here) own)
-  has_run (first ∷ list) e at (inr later) own = late (run first) (runs_of conf list) at (has_run list e at later own)
+  has_run (first ∷ list) e at (inl here) own = early (run first) (all_run_places conf list) at (subst (λ (o : Entry). IsOneOf (run o) at) (sym here) own)
+  has_run (first ∷ list) e at (inr later) own = late (run first) (all_run_places conf list) at (has_run list e at later own)
 
   place_in : (named : List ℕ) (at : ℕ) → IsOneOf (with_place named at) at
   place_in [] at = inl refl
@@ -217,11 +217,11 @@ module _ (conf : CacheConf) where
   places_in named (first ∷ places) at (inl here) = kept_named (with_place named first) places at (subst (λ (p : ℕ). IsOneOf (with_place named first) p) here (place_in named first))
   places_in named (first ∷ places) at (inr later) = places_in (with_place named first) places at later
 
-  pub bits_few : (some all : List Entry) → ((e : Entry) → IsEntryOf some e → IsEntryOf all e) → length (with_places [] (runs_of conf some)) ≤ length (bitmap_places conf all)
-  bits_few some all among = distinct_few (with_places [] (runs_of conf some)) (bitmap_places conf all) (once_each [] (runs_of conf some) tt) (λ at one.
-      elim (one_of_places [] (runs_of conf some) at one) [
+  pub bits_few : (some all : List Entry) → ((e : Entry) → IsEntryOf some e → IsEntryOf all e) → length (with_places [] (all_run_places conf some)) ≤ length (bitmap_places conf all)
+  bits_few some all among = distinct_few (with_places [] (all_run_places conf some)) (bitmap_places conf all) (once_each [] (all_run_places conf some) tt) (λ at one.
+      elim (one_of_places [] (all_run_places conf some) at one) [
         | inl none ↦ absurd none
         | inr own ↦
             let found = one_of_run some at own in
-            places_in [] (runs_of conf all) at (has_run all found.0 at (among found.0 found.1.0) found.1.1)
+            places_in [] (all_run_places conf all) at (has_run all found.0 at (among found.0 found.1.0) found.1.1)
       ])

@@ -21,7 +21,7 @@ use Rattle.uw_plan.specs.Regions.{shape_of}
 use Rattle.uw_plan.specs.Agreement.{AgreesAs}
 use Rattle.uw_plan.specs.Plans.{Costs, HasRoomFor, IsInUse, IsPaired, item_run_places}
 use Rattle.uw_plan.specs.CallSteps.{HasSpare, HasSpareFor, IsEntryOf, LeaveOneByOne, Leaves}
-use Rattle.uw_plan.specs.Bounds.{runs_of}
+use Rattle.uw_plan.specs.Bounds.{all_run_places}
 use Rattle.uw_plan.proofs.Shapes.{shape_is, shape_of_conf}
 use Rattle.uw_plan.proofs.Parted.{parted, parted_length}
 use Rattle.uw_plan.proofs.Dropping.{first_word, run_within, span_word}
@@ -38,10 +38,10 @@ pub leave_then : (list gone mid more kept : List Entry) → LeaveOneByOne list g
 leave_then list [] mid more kept first second = subst (λ (l : List Entry). LeaveOneByOne l more kept) (sym first) second
 leave_then list (e ∷ gone) mid more kept first second = (first.0, leave_then (without e.key list) gone mid more kept first.1 second)
 
-pub runs_then : (conf : CacheConf) (gone more : List Entry) → runs_of conf gone ++ runs_of conf more ≡ runs_of conf (gone ++ more)
+pub runs_then : (conf : CacheConf) (gone more : List Entry) → all_run_places conf gone ++ all_run_places conf more ≡ all_run_places conf (gone ++ more)
 runs_then conf [] more = refl
 runs_then conf (e ∷ gone) more =
-    append_assoc (run_places (shape_of conf) e.first (span conf e.value)) (runs_of conf gone) (runs_of conf more)
+    append_assoc (run_places (shape_of conf) e.first (span conf e.value)) (all_run_places conf gone) (all_run_places conf more)
     ∙ ap (λ (l : List ℕ). run_places (shape_of conf) e.first (span conf e.value) ++ l) (runs_then conf gone more)
 
 -- an entry of a list whose entries are apart
@@ -94,9 +94,9 @@ module _ (conf : CacheConf) (is : IsCacheConf conf) (words : List ℕ) where
     agrees = second.agrees;
     costs =
         let count : 16 * length first.gone + 16 * length second.gone ≡ 16 * length (first.gone ++ second.gone) = omega (arith, length-append first.gone second.gone) in
-        subst (λ (n : ℕ). Costs shape n (runs_of conf (first.gone ++ second.gone)) before now) count
+        subst (λ (n : ℕ). Costs shape n (all_run_places conf (first.gone ++ second.gone)) before now) count
         (subst (λ (run : List ℕ). Costs shape (16 * length first.gone + 16 * length second.gone) run before now) (runs_then conf first.gone second.gone)
-        (costs_then shape (16 * length first.gone) (16 * length second.gone) (runs_of conf first.gone) (runs_of conf second.gone) before mid now first.costs second.costs));
+        (costs_then shape (16 * length first.gone) (16 * length second.gone) (all_run_places conf first.gone) (all_run_places conf second.gone) before mid now first.costs second.costs));
   }
 
   -- the list is a state of the configuration
@@ -150,7 +150,7 @@ module _ (conf : CacheConf) (is : IsCacheConf conf) (words : List ℕ) where
   spare_left before now items list kept agrees leaves spare =
       let count : 16 * length list + 0 ≡ 16 * length leaves.gone + (16 * length kept + 0) =
       omega (arith, left_length leaves.gone list kept agrees.fits.state.apart leaves.leave) in
-      spare_after shape (16 * length leaves.gone) (16 * length kept + 0) (runs_of conf leaves.gone) before now (subst (λ (n : ℕ). HasSpare shape n before) count spare) leaves.costs
+      spare_after shape (16 * length leaves.gone) (16 * length kept + 0) (all_run_places conf leaves.gone) before now (subst (λ (n : ℕ). HasSpare shape n before) count spare) leaves.costs
 
 -- one more left
 module _ (conf : CacheConf) (is : IsCacheConf conf) (words : List ℕ) (before mid : Plan) (list kept : List Entry) (leaves : Leaves conf words before mid list kept)

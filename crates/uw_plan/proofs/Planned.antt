@@ -14,7 +14,7 @@ use Rattle.uw_words.specs.Texts.{text_words}
 use Rattle.uw_words.specs.Parts.{places_of, seen, with_places}
 use Rattle.uw_plan.specs.Regions.{shape_of}
 use Rattle.uw_plan.specs.Agreement.{Agrees, AgreesAs}
-use Rattle.uw_plan.specs.Bounds.{bitmap_places, lost_entries, most_planned, runs_of, written_entry}
+use Rattle.uw_plan.specs.Bounds.{bitmap_places, lost_entries, most_planned, all_run_places, written_entry}
 use Rattle.uw_plan.specs.Plans.{Costs, bit_places, count_of_others, is_bit_place}
 use Rattle.uw_plan.specs.CallSteps.{Enters, IsEntryOf, Leaves}
 use Rattle.uw_plan.specs.CallPlanSteps.{IsPlanned}
@@ -106,7 +106,7 @@ module _ (conf : CacheConf) (is : IsCacheConf conf) (words : List ℕ) (list : L
   pub planned_leaves : (before plan : Plan) → before.writes ≡ [] → written ≡ None → Leaves conf words before plan list next → IsPlanned conf words plan list now call
   planned_leaves before plan empty none leaves =
       let cost : ℕ = 16 * length leaves.gone in
-      let run : List ℕ = runs_of conf leaves.gone in
+      let run : List ℕ = all_run_places conf leaves.gone in
       let few : length leaves.gone ≤ length (lost_entries list next None) = lost_few list leaves.gone next leaves.leave in
       let bits : length (with_places [] run) ≤ length (bitmap_places conf (lost_entries list next None)) =
       bits_few conf leaves.gone (lost_entries list next None) (lost_has list leaves.gone next leaves.leave) in
@@ -129,7 +129,7 @@ module _ (conf : CacheConf) (is : IsCacheConf conf) (words : List ℕ) (list : L
   planned_enters before plan w kept empty some is_next enters =
       let cost : ℕ = 16 * length enters.gone + (32 + text_words (length w.key) + text_words (length w.value)) in
       let all : List Entry = enters.gone ++ w ∷ [] in
-      let run : List ℕ = runs_of conf all in
+      let run : List ℕ = all_run_places conf all in
       let agrees : AgreesAs (seen plan words) shape conf enters.items next = subst (AgreesAs (seen plan words) shape conf enters.items) (sym is_next) enters.agrees in
       let entry : IsEntry conf w = enters.agrees.fits.state.apart.0 in
       let lost : List Entry = lost_entries list (w ∷ kept) (Some w) in

@@ -25,7 +25,7 @@ use Rattle.uw_recency.proofs.Lists.{one_list}
 use Rattle.uw_plan.specs.Regions.{shape_of}
 use Rattle.uw_plan.specs.Parts.{HoldEntries}
 use Rattle.uw_plan.specs.Agreement.{AgreesAs}
-use Rattle.uw_plan.specs.Bounds.{runs_of}
+use Rattle.uw_plan.specs.Bounds.{all_run_places}
 use Rattle.uw_plan.specs.Plans.{Costs, HasRoomFor, IsInUse, item_run_places}
 use Rattle.uw_plan.specs.CallSteps.{Enters, HasSpare, HasSpareFor, IsItemOf, Leaves, entry_at}
 use Rattle.uw_plan.proofs.Agreeing.{entries_once}
@@ -67,7 +67,7 @@ module _ (conf : CacheConf) (is : IsCacheConf conf) (words : List ℕ) where
   spare_kept most before now items list kept agrees leaves spare =
       let count : 16 * length list + most ≡ 16 * length leaves.gone + (16 * length kept + most) =
       omega (arith, left_length conf is words leaves.gone list kept agrees.fits.state.apart leaves.leave) in
-      spare_after (shape_of conf) (16 * length leaves.gone) (16 * length kept + most) (runs_of conf leaves.gone) before now
+      spare_after (shape_of conf) (16 * length leaves.gone) (16 * length kept + most) (all_run_places conf leaves.gone) before now
       (subst (λ (n : ℕ). HasSpare (shape_of conf) n before) count spare) leaves.costs
 
   pub spare_alone : (list : List Entry) (most : ℕ) (plan : Plan) → HasSpareFor conf list most plan → HasSpareFor conf list 0 plan
@@ -175,12 +175,12 @@ module _ (conf : CacheConf) (is : IsCacheConf conf) (words : List ℕ) (before m
 
     module _ (done : Plan) (item : ℕ) (added : AgreesAs (seen done words) (shape_of conf) conf (item ∷ leaves.items) (entry ∷ kept))
         (costs : Costs (shape_of conf) most (run_places (shape_of conf) first n) now done) where
-      all_costs : Costs (shape_of conf) (16 * length left.gone + most) (runs_of conf (left.gone ++ entry ∷ [])) before done
+      all_costs : Costs (shape_of conf) (16 * length left.gone + most) (all_run_places conf (left.gone ++ entry ∷ [])) before done
       all_costs =
-          let own : run_places (shape_of conf) first n ≡ runs_of conf (entry ∷ []) = sym (append-nil (run_places (shape_of conf) first n)) in
+          let own : run_places (shape_of conf) first n ≡ all_run_places conf (entry ∷ []) = sym (append-nil (run_places (shape_of conf) first n)) in
           subst (λ (run : List ℕ). Costs (shape_of conf) (16 * length left.gone + most) run before done)
-          (ap (λ (run : List ℕ). runs_of conf left.gone ++ run) own ∙ runs_then conf left.gone (entry ∷ []))
-          (costs_then (shape_of conf) (16 * length left.gone) most (runs_of conf left.gone) (run_places (shape_of conf) first n) before now done left.costs costs)
+          (ap (λ (run : List ℕ). all_run_places conf left.gone ++ run) own ∙ runs_then conf left.gone (entry ∷ []))
+          (costs_then (shape_of conf) (16 * length left.gone) most (all_run_places conf left.gone) (run_places (shape_of conf) first n) before now done left.costs costs)
 
       pub entered : Enters conf words before done list (new_entry key value dies (unwrap_or (first_run conf kept n) 0) moment) kept
       entered =

@@ -41,12 +41,12 @@ abbrev pub lost_entries : List Entry → List Entry → Option Entry → List En
 lost_entries list next written = filter (λ e. is_overwritten written e || not (list_any (is_same_entry e) next)) list
 
 -- the bitmap words of the blocks of entries, one entry after the other
-abbrev pub runs_of : CacheConf → List Entry → List ℕ
-runs_of conf list = flat_map (λ e. run_places (shape_of conf) e.first (span conf e.value)) list
+abbrev pub all_run_places : CacheConf → List Entry → List ℕ
+all_run_places conf list = flat_map (λ e. run_places (shape_of conf) e.first (span conf e.value)) list
 
 -- the bitmap words of the blocks of entries, each once
 abbrev pub bitmap_places : CacheConf → List Entry → List ℕ
-bitmap_places conf list = with_places [] (runs_of conf list)
+bitmap_places conf list = with_places [] (all_run_places conf list)
 
 -- how many words are planned at most for entries that are lost and one that is written
 abbrev pub most_planned : CacheConf → List Entry → Option Entry → ℕ

@@ -13,7 +13,7 @@ use Rattle.uw_words.specs.Numbers.{AreDistinct}
 use Rattle.uw_words.specs.Parts.{seen}
 use Rattle.uw_words.specs.Texts.{text_words}
 use Rattle.uw_plan.specs.Agreement.{AgreesAs}
-use Rattle.uw_plan.specs.Bounds.{runs_of}
+use Rattle.uw_plan.specs.Bounds.{all_run_places}
 use Rattle.uw_plan.specs.Plans.{Costs, IsPaired, bit_places, count_of_others}
 use Rattle.uw_plan.specs.Regions.{shape_of}
 
@@ -54,7 +54,7 @@ pub record Leaves (conf : CacheConf) (words : List ℕ) (before now : Plan) (lis
   pub items : List ℕ
   pub leave : LeaveOneByOne list gone kept
   pub agrees : AgreesAs (seen now words) (shape_of conf) conf items kept
-  pub costs : Costs (shape_of conf) (16 * length gone) (runs_of conf gone) before now
+  pub costs : Costs (shape_of conf) (16 * length gone) (all_run_places conf gone) before now
 
 -- entries left the list, and then one came in front of those that are left
 pub record Enters (conf : CacheConf) (words : List ℕ) (before now : Plan) (list : List Entry) (e : Entry) (kept : List Entry) : Type 0 where
@@ -62,7 +62,7 @@ pub record Enters (conf : CacheConf) (words : List ℕ) (before now : Plan) (lis
   pub items : List ℕ
   pub leave : LeaveOneByOne list gone kept
   pub agrees : AgreesAs (seen now words) (shape_of conf) conf items (e ∷ kept)
-  pub costs : Costs (shape_of conf) (16 * length gone + (32 + text_words (length e.key) + text_words (length e.value))) (runs_of conf (gone ++ e ∷ [])) before now
+  pub costs : Costs (shape_of conf) (16 * length gone + (32 + text_words (length e.key) + text_words (length e.value))) (all_run_places conf (gone ++ e ∷ [])) before now
 
 -- an entry of this key and value was written in front of the list, in room that is made at a moment, or no policy makes room
 abbrev pub IsPut : CacheConf → List ℕ → (before now : Plan) → (moment : ℕ) → (key value : List ℕ) → (dies : ℕ) → List Entry → Bool → Type 0

@@ -19,7 +19,7 @@ returns-clause-twins c =
     let plan = c.plan_call-planned.new.over.writes in
     let made = on_ok c.commit.result (AllMade (commit_writes c.frame_of-frame.result plan) twin.ram c.commit.new.ram _ _) c.commit.ensures.alive c.commit.ensures.all in
     let next = agrees_after twin.conf c.requires.is twin.ram list c.requires.agrees c.frame_of-frame.result c.shape_of.result c.frame_of-frame.ensures c.shape_of.ensures.parts c.args.moment
-        c.args.call.now plan c.commit.new.ram (c.plan_call-planned.ensures.right list c.requires.agrees) made.words in
+    c.args.call.now plan c.commit.new.ram (c.plan_call-planned.ensures.right list c.requires.agrees) made.words in
     let same : c.call.new.self.list ≡ next_state twin.conf list c.args.moment c.args.call.now =
     c.in_ok-other.ensures.next ∙ ap (λ conf. next_state conf list c.args.moment c.args.call.now) c.requires.same in
     record {
