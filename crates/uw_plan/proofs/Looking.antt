@@ -34,7 +34,7 @@ use Rattle.uw_items.proofs.FreeItems.{free_depends}
 use Rattle.uw_plan.specs.Agreement.{AgreesAs, FitsList, is_covered}
 use Rattle.uw_plan.specs.CallSteps.{IsItemOf, entry_at}
 use Rattle.uw_plan.specs.EntrySteps.{zone_of}
-use Rattle.uw_plan.specs.Parts.{IsOfBytes, HoldEntries, HoldsEntry, HoldsParts, Parts}
+use Rattle.uw_plan.specs.Parts.{AllBytes, HoldEntries, HoldsEntry, HoldsParts, Parts}
 use Rattle.uw_plan.specs.Plans.{Costs, IsInUse, IsPaired}
 use Rattle.uw_plan.specs.Regions.{shape_of}
 use Rattle.uw_plan.proofs.Costing.{costs_of}
@@ -126,7 +126,7 @@ module _ (conf : CacheConf) (shape : Shape) (of : IsShapeOf conf shape) (reader 
   on_chain item one holds =
       subst (λ (chain : ℕ). IsOneOf (agrees.parts.chains chain) item) (ap (λ (hash : ℕ). hash % shape.n_chains) holds.hash) (agrees.chained item one)
 
-  key_found : (item : ℕ) → IsOfBytes key → IsOneOf (agrees.parts.chains (key_chain shape key)) item → HoldsKey reader shape item key
+  key_found : (item : ℕ) → AllBytes key → IsOneOf (agrees.parts.chains (key_chain shape key)) item → HoldsKey reader shape item key
       → (e : Entry) × ((entry_at list key ≡ Some e) × IsPaired items list item e)
   key_found item bytes chained holds =
       let few : key_chain shape key < conf.chains = omega (arith, key_short shape of.is key, of.chains) in
@@ -136,7 +136,7 @@ module _ (conf : CacheConf) (shape : Shape) (of : IsShapeOf conf shape) (reader 
       let same : held.0.key ≡ key = sym (key_back shape reader item held.0.key entry.key_bytes entry.key) ∙ key_back shape reader item key bytes holds in
       (held.0, (entry_found key conf items list item held.0 agrees.fits.state.apart held.1 same, held.1))
 
-  pub found_item : (result : Option ℕ) → IsOfBytes key
+  pub found_item : (result : Option ℕ) → AllBytes key
       → IfSome result (λ item. IsOneOf (agrees.parts.chains (key_chain shape key)) item × HoldsKey reader shape item key)
       → IfNone result ((item : ℕ) → IsOneOf (agrees.parts.chains (key_chain shape key)) item → HoldsKey reader shape item key → ⊥)
       → IsItemOf items list (entry_at list key) result

@@ -49,16 +49,16 @@ abbrev pub entry_of : (key value : List ℕ) → Fields → Entry
 entry_of key value fields = record { key = key; value = value; dies = fields.dies; first = fields.first }
 
 -- numbers that are bytes
-abbrev pub IsOfBytes : List ℕ → Type 0
-IsOfBytes bytes = All (λ byte. byte < 256) bytes
+abbrev pub AllBytes : List ℕ → Type 0
+AllBytes bytes = All (λ byte. byte < 256) bytes
 
 -- the item holds the entry: its key, its fields, and its value in its blocks, both of them bytes
 pub record HoldsEntry (reader : ℕ → ℕ) (shape : Shape) (item : ℕ) (e : Entry) : Type 0 where
   pub key : HoldsKey reader shape item e.key
   pub fields : HoldsFields reader shape item (fields_of_entry e)
   pub value : HoldsValue reader shape e.first e.value
-  pub key_bytes : IsOfBytes e.key
-  pub value_bytes : IsOfBytes e.value
+  pub key_bytes : AllBytes e.key
+  pub value_bytes : AllBytes e.value
 
 -- each item holds the entry of the same place, and there are as many entries as items
 abbrev pub HoldEntries : (ℕ → ℕ) → Shape → List ℕ → List Entry → Type 0

@@ -7,7 +7,7 @@ use Rattle.uw_words.specs.Parts.{HasRoom, seen}
 use Rattle.uw_words.specs.Texts.{text_words}
 use Rattle.uw_words.proofs.Growth.{spare_room}
 use Rattle.uw_bitmap.specs.Bits.{run_places}
-use Rattle.uw_plan.specs.Parts.{IsOfBytes, HoldsEntry, entry_of}
+use Rattle.uw_plan.specs.Parts.{AllBytes, HoldsEntry, entry_of}
 use Rattle.uw_plan.specs.Agreement.{AgreesAs}
 use Rattle.uw_plan.specs.EntrySteps.{record_places, taken_parts}
 use Rattle.uw_plan.specs.Plans.{Costs}
@@ -265,8 +265,8 @@ returns-clause-list c = λ items list held o is its_state.
     let now = c.count_up.new.over in
     let state : IsState conf (e ∷ list) = subst (λ (x : Entry). IsState conf (x ∷ list)) is its_state in
     let agrees : AgreesAs (seen before words) shape conf items list = subst (λ (s : Shape). AgreesAs (seen before words) s conf items list) (sym same) held in
-    let small_key : IsOfBytes c.args.key.now = All-from_get_or (λ x. x < 256) c.args.key.now 0 (λ i inside. omega (arith, c.type_inv.key i)) in
-    let small_value : IsOfBytes c.args.value.now = All-from_get_or (λ x. x < 256) c.args.value.now 0 (λ i inside. omega (arith, c.type_inv.value i)) in
+    let small_key : AllBytes c.args.key.now = All-from_get_or (λ x. x < 256) c.args.key.now 0 (λ i inside. omega (arith, c.type_inv.key i)) in
+    let small_value : AllBytes c.args.value.now = All-from_get_or (λ x. x < 256) c.args.value.now 0 (λ i inside. omega (arith, c.type_inv.value i)) in
     let fields = c.put_record.ensures.fields words in
     let holds : HoldsEntry (seen c.put_record.new.over words) shape c.take_item-item.result e = record {
       key = c.put_record.ensures.key words;
