@@ -10,7 +10,7 @@ use uw_model::{Answer, CacheConf, Call, MathOp};
 
 /// What is called.
 #[derive(Clone, Copy)]
-enum What {
+pub enum What {
     Get(&'static [u8]),
     Set(&'static [u8], &'static [u8], u64),
     Update(&'static [u8], &'static [u8], u64),
@@ -25,7 +25,7 @@ enum What {
 
 /// The answer that is wanted.
 #[derive(Clone, Copy)]
-enum Want {
+pub enum Want {
     Value(&'static [u8]),
     Missing,
     Done,
@@ -108,8 +108,8 @@ fn is_wanted(answer: &Answer, want: Want) -> bool {
     }
 }
 
-// The number of the first row of which the answer of the region or that of the list is not the wanted one.
-fn first_unwanted(
+/// The number of the first row of which the answer of the region or that of the list is not the wanted one.
+pub fn first_unwanted(
     alloc: Global,
     twin: &mut Twin,
     rows: &[(u64, What, Want)],

@@ -21,7 +21,7 @@ const ONE: [u64; 61] = [
 ];
 
 /// The words of the example: then `b` was set to `two`, up to the moment 100.
-const TWO: [u64; 61] = [
+pub const TWO: [u64; 61] = [
     1, 4, 4, 1, 1, 4, 30, 21, 39, 2, 0, 0, 0, 0, 0, 0, // header
     3, // bitmap
     21, 0, 0, 30, // chains
@@ -32,134 +32,31 @@ const TWO: [u64; 61] = [
     6647407, 7305076, 0, 0, // blocks
 ];
 
+/// The value `eightlet` as a word.
+const EIGHTLET: u64 = 8_387_229_128_271_030_629;
+
 /// Then `e` was set to `eightlet`: it falls on the chain of `a`.
 const THREE: [u64; 61] = [
-    1,
-    4,
-    4,
-    1,
-    1,
-    4,
-    39,
-    21,
-    48,
-    3,
-    0,
-    0,
-    0,
-    0,
-    0,
-    0, // header
+    1, 4, 4, 1, 1, 4, 39, 21, 48, 3, 0, 0, 0, 0, 0, 0, // header
     7, // bitmap
-    39,
-    0,
-    0,
-    30, // chains
-    0,
-    30,
-    0,
-    0,
-    0,
-    3,
-    1,
-    177604,
-    97, // item 0: a
-    0,
-    39,
-    21,
-    100,
-    1,
-    3,
-    1,
-    177607,
-    98, // item 1: b
-    21,
-    0,
-    30,
-    0,
-    2,
-    8,
-    1,
-    177600,
-    101, // item 2: e
-    0,
-    0,
-    0,
-    0,
-    0,
-    0,
-    0,
-    0,
-    0, // item 3: free
-    6647407,
-    7305076,
-    8387229128271030629,
-    0, // blocks
+    39, 0, 0, 30, // chains
+    0, 30, 0, 0, 0, 3, 1, 177604, 97, // item 0: a
+    0, 39, 21, 100, 1, 3, 1, 177607, 98, // item 1: b
+    21, 0, 30, 0, 2, 8, 1, 177600, 101, // item 2: e
+    0, 0, 0, 0, 0, 0, 0, 0, 0, // item 3: free
+    6647407, 7305076, EIGHTLET, 0, // blocks
 ];
 
 /// Then `a` left: of its item the link of the next free one alone changes.
 const DROPPED: [u64; 61] = [
-    1,
-    4,
-    4,
-    1,
-    1,
-    4,
-    39,
-    30,
-    21,
-    2,
-    0,
-    0,
-    0,
-    0,
-    0,
-    0, // header
+    1, 4, 4, 1, 1, 4, 39, 30, 21, 2, 0, 0, 0, 0, 0, 0, // header
     6, // bitmap
-    39,
-    0,
-    0,
-    30, // chains
-    0,
-    30,
-    48,
-    0,
-    0,
-    3,
-    1,
-    177604,
-    97, // item 0: free
-    0,
-    39,
-    0,
-    100,
-    1,
-    3,
-    1,
-    177607,
-    98, // item 1: b
-    0,
-    0,
-    30,
-    0,
-    2,
-    8,
-    1,
-    177600,
-    101, // item 2: e
-    0,
-    0,
-    0,
-    0,
-    0,
-    0,
-    0,
-    0,
-    0, // item 3: free
-    6647407,
-    7305076,
-    8387229128271030629,
-    0, // blocks
+    39, 0, 0, 30, // chains
+    0, 30, 48, 0, 0, 3, 1, 177604, 97, // item 0: free
+    0, 39, 0, 100, 1, 3, 1, 177607, 98, // item 1: b
+    0, 0, 30, 0, 2, 8, 1, 177600, 101, // item 2: e
+    0, 0, 0, 0, 0, 0, 0, 0, 0, // item 3: free
+    6647407, 7305076, EIGHTLET, 0, // blocks
 ];
 
 /// These words are seen, so many of them planned.
