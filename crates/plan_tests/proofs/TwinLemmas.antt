@@ -1,5 +1,5 @@
 -- A region answers as a plain list, and stands for it after each call.
-use Rattle.std.proofs.Common.{◌≡◌, ℕ, true, List, [], length, Result, Ok, Err, is_ok, OnOk, refl, sym, ap, ◌∙◌, subst}
+use Rattle.std.proofs.Common.{◌≡◌, ℕ, true, List, length, Result, Ok, Err, is_ok, OnOk, sym, ap, ◌∙◌, subst}
 use Rattle.uw_model.specs.declared.conf.CacheConf.{CacheConf}
 use Rattle.uw_model.specs.declared.entries.Entry.{Entry}
 use Rattle.uw_model.specs.declared.calls.Call.{Call}

@@ -1,10 +1,10 @@
-use Rattle.std.proofs.Common.{◌≡◌, ◌∙◌, ◌≤◌, List, sym, ap, subst, arith}
+use Rattle.std.proofs.Common.{◌≡◌, ◌∙◌, List, sym, ap, subst, arith}
 use Rattle.uw_model.specs.declared.entries.Entry.{Entry}
 use Rattle.uw_model.specs.Calls.{answer, next_state}
 use Rattle.uw_intent.specs.Stores.{AllMade}
 use Rattle.uw_intent.specs.RedoRecord.{commit_writes}
 use Rattle.uw_plan.specs.Agreement.{Agrees}
-use Rattle.plan_tests.proofs.TwinLemmas.{agrees_after, is_frame, on_ok}
+use Rattle.plan_tests.proofs.TwinLemmas.{agrees_after, on_ok}
 use Rattle.plan_tests.proofs.twins.Twin.call.Goals as goal
 
 pub told-requires-clause-tells : goal.told-requires-clause-tells
