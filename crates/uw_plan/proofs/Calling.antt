@@ -6,6 +6,7 @@ use Rattle.uw_model.specs.declared.entries.Entry.{Entry}
 use Rattle.uw_model.specs.declared.calls.Call.{Call}
 use Rattle.uw_model.specs.declared.calls.Call.TheVariants as calls
 use Rattle.uw_model.specs.declared.calls.Answer.TheVariants as answers
+use Rattle.uw_model.specs.Laws.{is_refusal}
 use Rattle.uw_model.specs.Calls.{Outcome, alive_at, answer, deleted, got, is_bad_key, is_no_number, next_state, number_at, number_of, outcome, refused, without}
 use Rattle.uw_model.specs.Entries.{IsCacheConf}
 use Rattle.uw_model.specs.Layout.{key_words, value_words, words_of}
@@ -114,6 +115,9 @@ module _ (conf : CacheConf) (is : IsCacheConf conf) (words : List ℕ) (list : L
 
   pub got_used : conf.purge_lru ≡ true → next_state conf list now (calls.Get key) ≡ e ∷ without e.key list
   got_used purges = ap (λ (o : Outcome). o.list) outcome_is ∙ cond-true conf.purge_lru (e ∷ without e.key list) list purges
+
+  pub got_told : is_refusal (answer conf list now (calls.Get key)) ≡ false
+  got_told = ap is_refusal (ap (λ (o : Outcome). o.answer) outcome_is)
 
   pub got_tells : (plan : Plan) (items : List ℕ) (others : List Entry) → AgreesAs (seen plan words) (shape_of conf) conf items others → IsPaired items others item e
       → TellsValue conf words plan item (answer conf list now (calls.Get key))

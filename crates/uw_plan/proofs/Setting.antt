@@ -10,6 +10,7 @@ use Rattle.uw_model.specs.declared.calls.Call.{Call}
 use Rattle.uw_model.specs.declared.calls.MathOp.{MathOp}
 use Rattle.uw_model.specs.declared.calls.Call.TheVariants as calls
 use Rattle.uw_model.specs.declared.calls.Answer.TheVariants as answers
+use Rattle.uw_model.specs.Laws.{is_refusal}
 use Rattle.uw_model.specs.Calls.{Outcome, alive_at, answer, bytes_of_number, dies_at, dies_of_number, is_bad_key, is_in_range, is_no_number, is_too_long, is_zero_division, number_at, number_outcome, outcome, placed, refused, result_of, written}
 use Rattle.uw_model.specs.Entries.{IsCacheConf, max_value, new_entry, span}
 use Rattle.uw_model.specs.Placement.{first_run}
@@ -51,11 +52,11 @@ module _ (conf : CacheConf) (words : List ℕ) (before after : Plan) (ready : Is
     entered : outcome conf list now call ≡ placed conf list now key value dies answered (Some kept)
     entered = is ∙ ap (placed conf list now key value dies answered) put.1.0
 
-    pub wrote_plan : has_written call answered ≡ true → IsPlanned conf words after list now call
-    wrote_plan writes =
+    pub wrote_plan : has_written call answered ≡ true → is_refusal answered ≡ false → IsPlanned conf words after list now call
+    wrote_plan writes told =
         let some : written_entry conf list now call ≡ Some entry =
         ap (λ (o : Outcome). cond (has_written call o.answer) (slice_get o.list 0) None) entered ∙ cond-true (has_written call answered) (Some entry) None writes in
-        planned_enters conf ready.is words list agrees.agrees.fits.state.few now call before after entry kept ready.empty some (ap (λ (o : Outcome). o.list) entered) put.1.1
+        planned_enters conf ready.is words list agrees.agrees.fits.state.few now call before after entry kept (ap is_refusal (ap (λ (o : Outcome). o.answer) entered) ∙ told) ready.empty some (ap (λ (o : Outcome). o.list) entered) put.1.1
 
     pub wrote_answer : answered ≡ answer conf list now call
     wrote_answer = sym (ap (λ (o : Outcome). o.answer) entered)

@@ -48,14 +48,34 @@ all_run_places conf list = flat_map (λ e. run_places (shape_of conf) e.first (s
 abbrev pub bitmap_places : CacheConf → List Entry → List ℕ
 bitmap_places conf list = with_places [] (all_run_places conf list)
 
--- how many words are planned at most for entries that are lost and one that is written
-abbrev pub most_planned : CacheConf → List Entry → Option Entry → ℕ
-most_planned conf lost None = 32 + 16 * (length lost + 1) + length (bitmap_places conf lost)
-most_planned conf lost (Some e) =
-    32 + 16 * (length lost + 1) + text_words (length e.key) + text_words (length e.value) + length (bitmap_places conf (e ∷ lost))
+-- a get that is a use: the entry that it gives comes to the front
+abbrev pub has_used : CacheConf → Call → Answer → Bool
+has_used conf (calls.Get key) (answers.Value value) = conf.purge_lru
+has_used conf _ _ = false
+
+-- the entry that a call put in front of the list: the one that it wrote or used
+abbrev pub front_entry : CacheConf → List Entry → ℕ → Call → Option Entry
+front_entry conf list now call =
+    if has_written call (answer conf list now call) || has_used conf call (answer conf list now call)
+    then slice_get (next_state conf list now call) 0 else None
+
+-- the words of a key and a value that are written
+abbrev pub written_words : Option Entry → ℕ
+written_words None = 0
+written_words (Some e) = text_words (length e.key) + text_words (length e.value)
+
+-- entries, and one that is put in front
+abbrev pub with_front : Option Entry → List Entry → List Entry
+with_front None lost = lost
+with_front (Some e) lost = e ∷ lost
+
+-- how many words are planned at most for entries that are lost, one that is written, and one that is put in front
+abbrev pub most_planned : CacheConf → List Entry → (written front : Option Entry) → ℕ
+most_planned conf lost written front =
+    32 + 16 * (length lost + 1) + written_words written + length (bitmap_places conf (with_front front lost))
 
 -- how many word writes a call makes at most: four for each word that is planned
 abbrev pub most_writes : CacheConf → List Entry → ℕ → Call → ℕ
 most_writes conf list now call =
     let written = written_entry conf list now call in
-    4 * most_planned conf (lost_entries list (next_state conf list now call) written) written
+    4 * most_planned conf (lost_entries list (next_state conf list now call) written) written (front_entry conf list now call)

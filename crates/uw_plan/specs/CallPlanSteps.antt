@@ -4,7 +4,8 @@ use Rattle.uw_model.specs.declared.conf.CacheConf.{CacheConf}
 use Rattle.uw_model.specs.declared.entries.Entry.{Entry}
 use Rattle.uw_model.specs.declared.calls.Call.{Call}
 use Rattle.uw_model.specs.Entries.{IsCacheConf}
-use Rattle.uw_model.specs.Calls.{is_no_number, next_state, number_at}
+use Rattle.uw_model.specs.Laws.{is_refusal}
+use Rattle.uw_model.specs.Calls.{answer, is_no_number, next_state, number_at}
 use Rattle.uw_model.specs.Layout.{plan_room}
 use Rattle.uw_words.specs.Shapes.{shape_words}
 use Rattle.uw_words.specs.Numbers.{AreDistinct, IsOneOf}
@@ -16,8 +17,8 @@ use Rattle.uw_plan.specs.Bounds.{most_writes}
 use Rattle.uw_plan.specs.Regions.{frame_of, shape_of}
 
 -- the words that are planned for a call on a list, from an overlay on that plans nothing: read through them a region agrees
--- with the next list; they are no more than the redo record has room for, their places are once each and may be written, and
--- a commit of them makes no more writes than the call may
+-- with the next list; they are no more than the redo record has room for, their places are once each and may be written, a
+-- commit of them makes no more writes than the call may, and for a refusal there are none
 pub record IsPlanned (conf : CacheConf) (words : List ℕ) (plan : Plan) (list : List Entry) (now : ℕ) (call : Call) : Type 0 where
   pub items : List ℕ
   pub agrees : AgreesAs (seen plan words) (shape_of conf) conf items (next_state conf list now call)
@@ -25,6 +26,7 @@ pub record IsPlanned (conf : CacheConf) (words : List ℕ) (plan : Plan) (list :
   pub once : AreDistinct (places_of plan.writes)
   pub targets : (at : ℕ) → IsOneOf (places_of plan.writes) at → IsTarget (frame_of (shape_of conf)) (shape_words (shape_of conf)) at
   pub few : 4 * length plan.writes + 3 ≤ most_writes conf list now call
+  pub bare : is_refusal (answer conf list now call) ≡ true → plan.writes ≡ []
 
 -- a region agrees with a list, and nothing is planned for it in an overlay with room for a call
 pub record IsUnplanned (conf : CacheConf) (words : List ℕ) (plan : Plan) : Type 0 where

@@ -1,5 +1,5 @@
 // An item is found by its key, and an entry is used.
-ghost use Rattle.std.specs.Prelude.{◌≡◌, ◌+◌, ◌≤◌, ◌==◌, ◌∷◌, ℕ, List, [], length, Some, None, if◌then◌else◌};
+ghost use Rattle.std.specs.Prelude.{◌≡◌, ◌+◌, ◌≤◌, ◌==◌, ◌∷◌, ℕ, List, [], length, Option, Some, None, IfSome, if◌then◌else◌};
 ghost use Rattle.uw_model.specs.declared.entries.Entry.{Entry};
 ghost use Rattle.uw_model.specs.Entries.{IsCacheConf};
 ghost use Rattle.uw_model.specs.Calls.{alive_at, number_of, without};
@@ -8,6 +8,7 @@ ghost use Rattle.uw_words.specs.Numbers.{without_number};
 ghost use Rattle.uw_words.specs.Parts.{seen};
 ghost use Rattle.uw_plan.specs.Agreement.{AgreesAs};
 ghost use Rattle.uw_plan.specs.CallSteps.{HasEntries, IsItemOf, entry_at};
+ghost use Rattle.uw_plan.specs.CallPlanSteps.{IsNumberAt};
 ghost use Rattle.uw_plan.specs.Plans.{Costs, IsInUse, IsPaired};
 ghost use Rattle.uw_plan.specs.Regions.{shape_of};
 
@@ -70,6 +71,22 @@ pub fn number_of_item(ram: &Ram, conf: &CacheConf, over: &Overlay, item: u64) ->
     }
     let word = over.load(ram, shape.blocks + fields.first * shape.block_words);
     Some(word.cast_signed())
+}
+
+/// The number of the entry that an item holds, 0 where there is none. None where the value of that entry is none of a
+/// number.
+pub fn number_found(ram: &Ram, conf: &CacheConf, over: &Overlay, item: Option<u64>) -> Option<i64>
+    requires conf { IsCacheConf conf.now }
+    requires region { length ram.now ≡ words_of conf.now }
+    requires used { IfSome item (λ i. IsInUse (seen over.now ram.now) (shape_of conf.now) conf.now i) }
+    ensures { (items : List ℕ) (list : List Entry) (entry : Option Entry)
+        → AgreesAs (seen over.now ram.now) (shape_of conf.now) conf.now items list → IsItemOf items list entry item
+        → IsNumberAt entry result }
+{
+    match item {
+        None => Some(0),
+        Some(item) => number_of_item(ram, conf, over, item),
+    }
 }
 
 /// Plans that the entry of an item is used: it comes to the front of the list. At most six words are planned for it.

@@ -1,8 +1,9 @@
 // Each call of a cache as planned words.
-ghost use Rattle.std.specs.Prelude.{◌≡◌, ◌≤◌, List, [], length};
+ghost use Rattle.std.specs.Prelude.{◌≡◌, ◌≤◌, IsTrue, List, [], length};
 ghost use Rattle.uw_model.specs.declared.entries.Entry.{Entry};
 ghost use Rattle.uw_model.specs.Entries.{IsCacheConf};
 ghost use Rattle.uw_model.specs.Calls.{answer};
+ghost use Rattle.uw_model.specs.Laws.{is_refusal};
 ghost use Rattle.uw_model.specs.Layout.{plan_room};
 ghost use Rattle.uw_words.specs.Plans.{HasDistinctPlaces};
 ghost use Rattle.uw_intent.specs.RedoRecord.{FitsRecord, commit_writes};
@@ -30,7 +31,7 @@ pub enum PlanAnswer {
     KeyList,
 }
 
-// The same with what the planned words are in place of what their commit does.
+// A call's plan: what its words are, of which `plan_call` says what their commit does.
 fn planned(ram: &Ram, conf: &CacheConf, moment: u64, call: &Call, over: &mut Overlay) -> PlanAnswer
     requires { IsUnplanned conf.now ram.now over.old }
     ensures room { over.new.room ≡ over.old.room }
@@ -76,8 +77,8 @@ fn planned(ram: &Ram, conf: &CacheConf, moment: u64, call: &Call, over: &mut Ove
     }
 }
 
-/// Plans the words by which a region comes to stand for the list after a call, at a moment in seconds, and what the call
-/// answers. Nothing is planned where the list stays. Takes no memory: what is told of a `ValueOf` or a `KeyList` does.
+/// Plans the words by which a region comes to stand for the list after a call, at a moment in seconds, and says what the
+/// call answers. Nothing is planned for a refusal. Takes no memory.
 pub fn plan_call(
     ram: &Ram,
     conf: &CacheConf,
@@ -96,6 +97,8 @@ pub fn plan_call(
         → IsRight (cache_kind conf.now) ram.now list moment call.now (answer conf.now list moment call.now)
         (commit_writes (frame_of (shape_of conf.now)) over.new.writes) }
     ensures tells { TellsOf conf.now ram.now over.new moment call.now result }
+    ensures refused { (list : List Entry) → Agrees conf.now ram.now list
+        → IsTrue (is_refusal (answer conf.now list moment call.now)) → over.new.writes ≡ [] }
 {
     planned(ram, conf, moment, call, over)
 }

@@ -7,7 +7,7 @@ ghost use Rattle.uw_plan.specs.Agreement.{Agrees};
 ghost use Rattle.uw_plan.specs.CallPlanSteps.{IsNumberAt, IsUnplanned, PlansFor};
 ghost use Rattle.uw_plan.specs.Told.{TellsOf};
 
-use crate::lookup::{alive_item, number_of_item, use_entry};
+use crate::lookup::{alive_item, number_found, use_entry};
 use crate::plan::PlanAnswer;
 use uw_model::{Answer, CacheConf, is_bad_key};
 use uw_words::{Overlay, Ram};
@@ -62,10 +62,8 @@ pub fn number_of_key(
     ensures { (list : List Entry) → Agrees conf.now ram.now list
         → IsNumberAt (alive_at conf.now list moment key.now) result }
 {
-    match alive_item(ram, conf, over, moment, key) {
-        None => Some(0),
-        Some(item) => number_of_item(ram, conf, over, item),
-    }
+    let item = alive_item(ram, conf, over, moment, key);
+    number_found(ram, conf, over, item)
 }
 
 /// The number of a key.

@@ -1,10 +1,11 @@
 // The answer that a plan tells.
-ghost use Rattle.std.specs.Prelude.{◌≡◌, List, [], map, IfOk};
+ghost use Rattle.std.specs.Prelude.{◌≡◌, List, [], map, IfOk, Ok};
 ghost use Rattle.uw_model.specs.declared.entries.Entry.{Entry};
 ghost use Rattle.uw_model.specs.declared.calls.Answer.{Answer};
 ghost use Rattle.uw_model.specs.Entries.{IsCacheConf};
 ghost use Rattle.uw_model.specs.Placement.{alive_of};
 ghost use Rattle.uw_plan.specs.Agreement.{Agrees};
+ghost use Rattle.uw_plan.specs.declared.plan.PlanAnswer.TheVariants as plans;
 ghost use Rattle.uw_plan.specs.Told.{Tells};
 
 use crate::plan::PlanAnswer;
@@ -59,7 +60,8 @@ pub fn told(
     requires conf { IsCacheConf conf.now }
     requires region { (list : List Entry) × Agrees conf.now ram.now list }
     requires tells { (b : Answer) × Tells conf.now ram.now over.now moment answer b }
-    ensures { IfOk result (λ a. (b : Answer) → Tells conf.now ram.now over.now moment answer b → a ≡ b) }
+    ensures answer { IfOk result (λ a. (b : Answer) → Tells conf.now ram.now over.now moment answer b → a ≡ b) }
+    ensures ready { (a : Answer) → answer ≡ plans.Ready a → result ≡ Ok a }
 {
     match answer {
         PlanAnswer::Ready(answer) => Ok(answer),

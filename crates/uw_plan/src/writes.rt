@@ -7,12 +7,12 @@ ghost use Rattle.uw_model.specs.Entries.{IsCacheConf};
 ghost use Rattle.uw_model.specs.Layout.{words_of};
 ghost use Rattle.uw_words.specs.Parts.{seen};
 ghost use Rattle.uw_plan.specs.Agreement.{Agrees, AgreesAs};
-ghost use Rattle.uw_plan.specs.CallPlanSteps.{IsNumberAt, IsUnplanned, PlansFor};
+ghost use Rattle.uw_plan.specs.CallPlanSteps.{IsUnplanned, PlansFor};
 ghost use Rattle.uw_plan.specs.CallSteps.{IsItemOf, IsPut};
 ghost use Rattle.uw_plan.specs.Plans.{IsInUse};
 ghost use Rattle.uw_plan.specs.Regions.{shape_of};
 
-use crate::lookup::{alive_item, number_of_item};
+use crate::lookup::{alive_item, number_found};
 use crate::put::put_entry;
 use crate::region::shape_of;
 use uw_items::fields_of;
@@ -126,22 +126,6 @@ impl Reckoning {
             by: *by,
             ttl: *ttl,
         }
-    }
-}
-
-// The number of the entry that an item holds, 0 where there is none. None where the value of that entry is none of a
-// number.
-fn number_found(ram: &Ram, conf: &CacheConf, over: &Overlay, item: Option<u64>) -> Option<i64>
-    requires conf { IsCacheConf conf.now }
-    requires region { length ram.now ≡ words_of conf.now }
-    requires used { IfSome item (λ i. IsInUse (seen over.now ram.now) (shape_of conf.now) conf.now i) }
-    ensures { (items : List ℕ) (list : List Entry) (entry : Option Entry)
-        → AgreesAs (seen over.now ram.now) (shape_of conf.now) conf.now items list → IsItemOf items list entry item
-        → IsNumberAt entry result }
-{
-    match item {
-        None => Some(0),
-        Some(item) => number_of_item(ram, conf, over, item),
     }
 }
 

@@ -14,3 +14,6 @@ returns-clause-distinct c =
 pub returns-clause-right : goal.returns-clause-right
 returns-clause-right c = λ list agrees.
     is_right c.args.conf.now c.requires.conf c.args.ram.now c.planned.new.over list c.args.moment c.args.call.now agrees (c.planned.ensures.plan list agrees)
+
+pub returns-clause-refused : goal.returns-clause-refused
+returns-clause-refused c = λ list agrees. (c.planned.ensures.plan list agrees).bare

@@ -7,7 +7,7 @@ use Rattle.uw_words.specs.Parts.{seen}
 use Rattle.uw_plan.specs.Agreement.{AgreesAs}
 use Rattle.uw_plan.specs.Regions.{shape_of}
 use Rattle.uw_plan.proofs.Planned.{planned_use}
-use Rattle.uw_plan.proofs.Calling.{bad_get, good_get, got_leaves, got_tells, got_used, has_entries, region_length, seen_agrees, unchanged}
+use Rattle.uw_plan.proofs.Calling.{bad_get, good_get, got_leaves, got_tells, got_told, got_used, has_entries, region_length, seen_agrees, unchanged}
 use Rattle.uw_plan.proofs.reads.plan_get.Goals as goal
 
 pub returns-then-is_bad_key-clause-plan : goal.returns-then-is_bad_key-clause-plan
@@ -70,8 +70,9 @@ returns-clause-plan c = λ list agrees.
     let found = c.in-Some.ensures agrees.items list held in
     let e : Entry = found.0 in
     let items = c.in-Some.item ∷ without_number agrees.items c.in-Some.item in
+    let told = got_told conf c.requires.is words list agrees c.args.moment c.args.key.now good c.in-Some.item found in
     let next = got_used conf c.requires.is words list agrees c.args.moment c.args.key.now good c.in-Some.item found c.if-not-conf.false in
-    planned_use conf c.requires.is words list held.fits.state.few c.args.moment (calls.Get c.args.key.now) c.args.over.now after c.requires.empty c.use_entry.ensures.costs items
+    planned_use conf c.requires.is words list held.fits.state.few c.args.moment (calls.Get c.args.key.now) c.args.over.now after told c.requires.empty c.use_entry.ensures.costs items
     (subst (λ (l : List Entry). AgreesAs (seen after words) (shape_of conf) conf items l) (sym next) (c.use_entry.ensures.list agrees.items list e held found.1.1))
 
 pub returns-clause-tells : goal.returns-clause-tells

@@ -21,5 +21,5 @@ returns-clause-room c =
 pub returns-clause-plan : goal.returns-clause-plan
 returns-clause-plan c = λ moment list agrees.
     let held = seen_agrees c.args.conf.now c.args.ram.now c.args.over.now c.requires list agrees in
-    planned_leaves c.args.conf.now c.requires.is c.args.ram.now list held.fits.state.few moment calls.Clear c.args.over.now c.clear.new.over c.requires.empty refl
+    planned_leaves c.args.conf.now c.requires.is c.args.ram.now list held.fits.state.few moment calls.Clear c.args.over.now c.clear.new.over refl c.requires.empty refl refl
     (c.clear.ensures.list agrees.items list held)

@@ -1,6 +1,7 @@
 use Rattle.std.proofs.Common.{◌≡◌, ◌∙◌, List, Some, None, false, true, refl, sym, ap, subst, arith}
 use Rattle.uw_model.specs.declared.entries.Entry.{Entry}
 use Rattle.uw_model.specs.declared.calls.Call.TheVariants as calls
+use Rattle.uw_model.specs.Laws.{is_refusal}
 use Rattle.uw_model.specs.Calls.{Outcome, is_bad_key}
 use Rattle.uw_words.specs.Parts.{seen}
 use Rattle.uw_plan.specs.CallSteps.{Leaves}
@@ -65,7 +66,7 @@ returns-clause-plan c = λ list agrees.
     let is = good_del conf list c.args.moment c.args.key.now (Some e) good found.1.0 in
     let leaves = leaves_one conf c.requires.is words before c.drop_entry.new.over agrees.items list c.in-Some.item e held found.1.1
     (c.drop_entry.ensures.list agrees.items list e held found.1.1) c.drop_entry.ensures.costs in
-    planned_leaves conf c.requires.is words list held.fits.state.few c.args.moment (calls.Del c.args.key.now) before c.drop_entry.new.over c.requires.empty refl
+    planned_leaves conf c.requires.is words list held.fits.state.few c.args.moment (calls.Del c.args.key.now) before c.drop_entry.new.over (ap is_refusal (ap (λ (o : Outcome). o.answer) is)) c.requires.empty refl refl
     (subst (λ (l : List Entry). Leaves conf words before c.drop_entry.new.over list l) (sym (ap (λ (o : Outcome). o.list) is)) leaves)
 
 pub returns-clause-answer : goal.returns-clause-answer

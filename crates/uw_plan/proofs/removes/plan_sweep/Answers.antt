@@ -33,7 +33,7 @@ returns-clause-room c =
 pub returns-clause-plan : goal.returns-clause-plan
 returns-clause-plan c = λ list agrees.
     let held = seen_agrees c.args.conf.now c.args.ram.now c.args.over.now c.requires list agrees in
-    planned_leaves c.args.conf.now c.requires.is c.args.ram.now list held.fits.state.few c.args.moment calls.Sweep c.args.over.now c.sweep-gone.new.over c.requires.empty refl
+    planned_leaves c.args.conf.now c.requires.is c.args.ram.now list held.fits.state.few c.args.moment calls.Sweep c.args.over.now c.sweep-gone.new.over refl c.requires.empty refl refl
     (c.sweep-gone.ensures.list agrees.items list held)
 
 pub returns-clause-answer : goal.returns-clause-answer

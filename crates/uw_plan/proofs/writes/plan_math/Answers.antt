@@ -148,7 +148,7 @@ pub returns-then-write-clause-plan : goal.returns-then-write-clause-plan
 returns-then-write-clause-plan c = λ list agrees.
     let r = c.args.reckoning in
     wrote_plan c.args.conf.now c.args.ram.now c.args.over.now c.write.new.over c.requires list agrees c.args.moment (calls.Math r.op c.args.key.now r.by r.ttl) c.args.key.now c.to_le_bytes.result
-    c.dies_of_number-dies.result (answers.Number c.in-Some-result_of.number) (is (goal.at.returns-then-write-clause-plan c).After-write list agrees) (c.if-write.ensures.list list agrees) refl
+    c.dies_of_number-dies.result (answers.Number c.in-Some-result_of.number) (is (goal.at.returns-then-write-clause-plan c).After-write list agrees) (c.if-write.ensures.list list agrees) refl refl
 
 pub returns-then-write-clause-answer : goal.returns-then-write-clause-answer
 returns-then-write-clause-answer c = λ list agrees.

@@ -62,7 +62,7 @@ returns-then-is_some-clause-answer c = λ list agrees. sym (ap (λ (o : Outcome)
 pub returns-then-write-clause-plan : goal.returns-then-write-clause-plan
 returns-then-write-clause-plan c = λ list agrees.
     wrote_plan c.args.conf.now c.args.ram.now c.args.over.now c.write.new.over c.requires list agrees c.args.moment (calls.Set c.args.key.now c.args.value.now c.args.ttl)
-    c.args.key.now c.args.value.now c.dies_at.result answers.Done (is (goal.at.returns-then-write-clause-plan c).After-write list agrees) (c.if-write.ensures.list list agrees) refl
+    c.args.key.now c.args.value.now c.dies_at.result answers.Done (is (goal.at.returns-then-write-clause-plan c).After-write list agrees) (c.if-write.ensures.list list agrees) refl refl
 
 pub returns-then-write-clause-answer : goal.returns-then-write-clause-answer
 returns-then-write-clause-answer c = λ list agrees.

@@ -4,7 +4,7 @@ use Rattle.uw_model.specs.Calls.{is_no_number, number_at}
 use Rattle.uw_plan.specs.CallPlanSteps.{IsNumberAt}
 use Rattle.uw_plan.specs.CallSteps.{IsItemOf}
 use Rattle.uw_plan.proofs.Calling.{number_found}
-use Rattle.uw_plan.proofs.writes.number_found.Goals as goal
+use Rattle.uw_plan.proofs.lookup.number_found.Goals as goal
 
 pub returns-in-None : goal.returns-in-None
 returns-in-None c = λ items list entry agrees found.
