@@ -49,7 +49,7 @@ struct Case {
     rows: &'static [(u64, What, Want)],
 }
 
-const CASES: [Case; 7] = [
+const CASES: [Case; 9] = [
     Case {
         name: "numbers at their limits, and when they die",
         sizes: SMALL,
@@ -264,6 +264,67 @@ const CASES: [Case; 7] = [
             (9, What::Del(b"a"), Want::Done),
             (9, What::Sweep, Want::Number(0)),
             (9, What::Keys, Want::Keys(&[b"n"])),
+        ],
+    },
+    Case {
+        name: "a purge where each entry has one block",
+        sizes: Sizes {
+            items: 2,
+            eights: 8,
+            keysize: 8,
+            chains: 2,
+            blocks: None,
+        },
+        policy: Policy::Purge,
+        rows: &[
+            (0, What::Set(b"a", b"a", 0), Want::Done),
+            (0, What::Set(b"b", b"b", 0), Want::Done),
+            (0, What::Get(b"a"), Want::Value(b"a")),
+            (0, What::Set(b"c", b"c", 0), Want::Done),
+            (0, What::Keys, Want::Keys(&[b"c", b"a"])),
+            (0, What::Exists(b"a"), Want::Flag(true)),
+            (0, What::Math(MathOp::Inc, b"n", 1, 0), Want::Number(1)),
+            (0, What::Keys, Want::Keys(&[b"n", b"c"])),
+            (0, What::Get(b"c"), Want::Value(b"c")),
+        ],
+    },
+    Case {
+        name: "runs of blocks whose bits stand in two words",
+        sizes: Sizes {
+            items: 4,
+            eights: 1,
+            keysize: 8,
+            chains: 4,
+            blocks: Some(70),
+        },
+        policy: Policy::Refuse,
+        rows: &[
+            (0, What::Set(b"a", &[7; 496], 0), Want::Done),
+            (
+                0,
+                What::Set(b"b", b"012345670123456701234567", 0),
+                Want::Done,
+            ),
+            (0, What::Set(b"c", b"0123456701234567", 0), Want::Done),
+            (0, What::Del(b"b"), Want::Done),
+            // blocks 62 to 64 are free, and 67 to 69
+            (
+                0,
+                What::Set(b"d", b"01234567012345670123456701234567", 0),
+                Want::Full,
+            ),
+            (
+                0,
+                What::Set(b"d", b"012345670123456701234567", 0),
+                Want::Done,
+            ),
+            (0, What::Get(b"d"), Want::Value(b"012345670123456701234567")),
+            (0, What::Get(b"c"), Want::Value(b"0123456701234567")),
+            (0, What::Del(b"a"), Want::Done),
+            (0, What::Del(b"d"), Want::Done),
+            (0, What::Set(b"e", &[8; 520], 0), Want::Done),
+            (0, What::Get(b"e"), Want::Value(&[8; 520])),
+            (0, What::Get(b"c"), Want::Value(b"0123456701234567")),
         ],
     },
     Case {
