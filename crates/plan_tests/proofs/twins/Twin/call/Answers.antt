@@ -34,5 +34,5 @@ pub returns-clause-same : goal.returns-clause-same
 returns-clause-same c =
     let twin = c.args.self.now in
     let told = answer twin.conf twin.list.list c.args.moment c.args.call.now in
-    c.in_ok-answer.ensures told (c.plan_call-planned.ensures.tells twin.list.list c.requires.agrees)
+    c.in_ok-answer.ensures.answer told (c.plan_call-planned.ensures.tells twin.list.list c.requires.agrees)
     ∙ sym (c.in_ok-other.ensures.answer ∙ ap (λ conf. answer conf twin.list.list c.args.moment c.args.call.now) c.requires.same)
