@@ -1,5 +1,5 @@
 -- A region answers as a plain list, and stands for it after each call.
-use Rattle.std.proofs.Common.{◌≡◌, ℕ, true, List, length, Result, Ok, Err, is_ok, OnOk, sym, ap, ◌∙◌, subst}
+use Rattle.std.proofs.Common.{◌≡◌, ℕ, true, List, Result, Ok, Err, is_ok, OnOk, sym, ap, ◌∙◌, subst}
 use Rattle.uw_model.specs.declared.conf.CacheConf.{CacheConf}
 use Rattle.uw_model.specs.declared.entries.Entry.{Entry}
 use Rattle.uw_model.specs.declared.calls.Call.{Call}
@@ -9,7 +9,7 @@ use Rattle.uw_words.specs.declared.shape.Shape.{Shape}
 use Rattle.uw_intent.specs.declared.frame.Frame.{Frame}
 use Rattle.uw_intent.specs.declared.frame.WordWrite.{WordWrite}
 use Rattle.uw_intent.specs.Stores.{words_after}
-use Rattle.uw_intent.specs.RedoRecord.{IsFrame, commit_writes}
+use Rattle.uw_intent.specs.RedoRecord.{commit_writes}
 use Rattle.uw_intent.specs.RightWrites.{IsRight}
 use Rattle.uw_intent.proofs.Rights.{right_agree}
 use Rattle.uw_plan.specs.Agreement.{Agrees}
@@ -21,9 +21,6 @@ module _ (conf : CacheConf) (is : IsCacheConf conf) (words : List ℕ) (list : L
     (shape : Shape) (of_shape : frame ≡ frame_of shape) (of_conf : shape ≡ shape_of conf) where
   framed : frame ≡ frame_of (shape_of conf)
   framed = of_shape ∙ ap frame_of of_conf
-
-  pub is_frame : IsFrame frame (length words)
-  is_frame = subst (λ (f : Frame). IsFrame f (length words)) (sym framed) ((regions_local conf is).frame words list agrees)
 
   -- the words after all writes of a commit agree with the next list
   pub agrees_after : (moment : ℕ) (call : Call) (plan : List (ℕ × ℕ)) (now : List ℕ)
