@@ -5,3 +5,4 @@ pub mod Standing
 pub mod RightWrites
 pub mod World
 pub mod CallTurns
+pub mod OneTurn

@@ -6,10 +6,12 @@ mod cursor;
 mod frame;
 mod kind;
 pub mod laws;
+mod recoverable;
 mod recovery;
 mod redo;
 
 pub use frame::{Frame, WordWrite};
 pub use kind::RegionKind;
+pub use recoverable::{CallFault, Recoverable, recovered_call};
 pub use recovery::{is_pending, nth_repair, recover};
 pub use redo::{commit, nth_write};
