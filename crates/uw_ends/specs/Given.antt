@@ -1,5 +1,5 @@
 -- How a call answers where a definition gives a value or none.
-use Rattle.std.specs.Prelude.{◌≡◌, ◌<◌, ◌≤◌, ◌^◌, Option, Some, None, Result, Ok, Err}
+use Rattle.std.specs.Prelude.{All, ◌≡◌, ◌<◌, ◌≤◌, ◌^◌, Option, Some, None, Result, Ok, Err}
 use Rattle.uw_ends.specs.declared.words.Command.{Command}
 use Rattle.uw_ends.specs.declared.words.Command.TheVariants.{Pipe, Spool, Steps, Load, Serve}
 use Rattle.uw_ends.specs.declared.words.WordsFault.{WordsFault}
@@ -13,7 +13,7 @@ GivesOrUsage (Err Memory) wanted = Unit {0}
 
 -- the numbers of a command lie in their ranges
 abbrev pub IsWithin : Command → Type 0
-IsWithin (Pipe die) = Unit {0}
+IsWithin (Pipe die) = All (λ n. 1 ≤ n) die
 IsWithin Spool = Unit {0}
 IsWithin Steps = Unit {0}
 IsWithin (Load first count) = (first < 2 ^ 31) × (count ≤ 1000000)

@@ -1,5 +1,5 @@
 // Numbers as words of the command line.
-ghost use Rattle.std.specs.Prelude.{◌≡◌, ◌≤◌, ◌==◌, IfOk, IfSome, map};
+ghost use Rattle.std.specs.Prelude.{All, ◌≡◌, ◌≤◌, ◌==◌, IfOk, IfSome, map};
 ghost use Rattle.std.specs.List.{slice_split};
 ghost use Rattle.uw_ends.specs.Given.{GivesOrUsage};
 ghost use Rattle.uw_ends.specs.Numbers.{all_read, deaths_of, plain_number, number_within};
@@ -46,7 +46,8 @@ fn parts<'a>(alloc: Global, text: &'a str) -> Result<Vec<&'a str>, AllocError>
 
 // The number of each part, from 1 to the highest of a write.
 fn numbers_in(alloc: Global, parts: &[&str]) -> Result<NumberList, WordsFault>
-    ensures { GivesOrUsage result (all_read (number_within 1 LAST_WRITE) (map (λ part. part.now) parts.now)) }
+    ensures numbers { GivesOrUsage result (all_read (number_within 1 LAST_WRITE) (map (λ part. part.now) parts.now)) }
+    ensures within { IfOk result (λ numbers. All (λ n. 1 ≤ n) numbers) }
 {
     let mut numbers = NumberList::new(alloc);
     for part in parts {
@@ -60,7 +61,8 @@ fn numbers_in(alloc: Global, parts: &[&str]) -> Result<NumberList, WordsFault>
 
 // The numbers of the word writes at which the workers of a run die, joined by commas.
 pub(crate) fn deaths(alloc: Global, text: &str) -> Result<NumberList, WordsFault>
-    ensures { GivesOrUsage result (deaths_of text.now) }
+    ensures numbers { GivesOrUsage result (deaths_of text.now) }
+    ensures within { IfOk result (λ numbers. All (λ n. 1 ≤ n) numbers) }
 {
     let parts = parts(alloc, text)?;
     if parts.len() > MOST_DEATHS {
