@@ -10,3 +10,4 @@ pub mod SpoolLemmas
 pub mod Standing
 pub mod StandingRounds
 pub mod Stopping
+pub mod Keeping

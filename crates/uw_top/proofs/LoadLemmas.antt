@@ -409,7 +409,7 @@ module _ {S : Type 0} (leads : S → S → List Asking → ℕ → Type 0) (site
 
 -- ---- over a desk that stands for lists
 
-module _ {D : Type 0} (leads : D → D → List Asking → ℕ → Type 0) (stands : D → Lists → Type 0) (on : StandsOn leads stands) (site : Site) where
+module _ {D : Type 0} (leads : D → D → List Asking → ℕ → Type 0) (stands : D → Lists → Type 0) (on : StandsOn leads list_leads stands) (site : Site) where
   -- what leads on from a state that stands for lists
   led_on : (a b : D) (lists : Lists) → stands a lists → LedOn (desk_led leads a b) (λ (after : Lists). desk_led list_leads lists after) (λ (after : Lists). stands b after)
   led_on a b lists held asked writes led = desk_on leads stands on a b lists (of_desk asked) writes held led

@@ -1,16 +1,17 @@
--- The parts of the plain lists that a configuration begins with.
-use Rattle.std.proofs.Common.{◌≡◌, ap, ap₂, ◌∙◌, arith}
+-- The parts of the regions that a configuration begins with.
+use Rattle.std.proofs.Common.{◌≡◌, sym, ap₂, ◌∙◌, arith}
 use Rattle.std.proofs.lemmas.List.{length-map}
 use Rattle.uw_model.specs.Asks.{DeskParts}
-use Rattle.uw_model.specs.Lists.{Lists, empty_lists, parts_of}
+use Rattle.uw_model.specs.Lists.{empty_lists}
 use Rattle.uw_conf.specs.declared.conf.Conf.{Conf}
 use Rattle.uw_conf.specs.Given.{parts_in}
 use Rattle.uw_session.specs.Exchange.{HasParts}
+use Rattle.uw_shared.specs.Regions.{Regions, RegionsStandFor, RegionsStandFor-parts, parts_of_regions}
 
--- empty lists have the parts of their configuration
-pub empty_parts : (conf : Conf) (lists : Lists) → lists ≡ empty_lists conf.caches conf.areas → parts_of lists ≡ parts_in conf
-empty_parts conf lists empty =
-    ap parts_of empty
+-- regions that stand for empty lists have the parts of their configuration
+pub region_parts : (conf : Conf) (regions : Regions) → RegionsStandFor regions (empty_lists conf.caches conf.areas) → parts_of_regions regions ≡ parts_in conf
+region_parts conf regions stand =
+    sym (RegionsStandFor-parts regions (empty_lists conf.caches conf.areas) stand)
     ∙ ap₂ (λ caches areas. let parts : DeskParts = record { caches = caches; areas = areas } in parts) (length-map conf.caches _) (length-map conf.areas _)
 
 -- a configuration's own parts are enough for it

@@ -24,7 +24,7 @@ abbrev over_lists : {D : Type 0} → RoundFlow D → Lists → Lists → RoundFl
 over_lists f lists after =
     record { leads = list_leads; before = lists; now = after; kept = f.kept; left = f.left; allowed = f.allowed; still = f.still }
 
-module _ {D : Type 0} (leads : D → D → List Asking → ℕ → Type 0) (stands : D → Lists → Type 0) (on : StandsOn leads stands) where
+module _ {D : Type 0} (leads : D → D → List Asking → ℕ → Type 0) (stands : D → Lists → Type 0) (on : StandsOn leads list_leads stands) where
   -- asks of a desk
   pub desk_on : (a b : D) (lists : Lists) (asked : List Asking) (writes : ℕ) → stands a lists → leads a b asked writes
       → (after : Lists) × stands b after × list_leads lists after asked writes
@@ -42,7 +42,7 @@ module _ {D : Type 0} (leads : D → D → List Asking → ℕ → Type 0) (stan
       let more = tasks_on rules now l.0 b first.0 l.2 left l.3 still turns first.1 l.8 in
       (more.0, more.1, (led.0, (first.0, l.1, l.2, l.3, first.2, l.5, l.6, l.7, more.2)))
 
-module _ {D : Type 0} (round : Round) (f : RoundFlow D) (stands : D → Lists → Type 0) (on : StandsOn f.leads stands) (lists : Lists) (held : stands f.before lists) where
+module _ {D : Type 0} (round : Round) (f : RoundFlow D) (stands : D → Lists → Type 0) (on : StandsOn f.leads list_leads stands) (lists : Lists) (held : stands f.before lists) where
   -- the turns of a report
   has_turns_on : (report : List TaskLine) (more : List Row) (state : D) (kept : Keeping) (allowed : Option (List ℕ)) → HasTurns round f report more state kept allowed
       → (after : Lists) × stands state after × ((end : Lists) → HasTurns round (over_lists f lists end) report more after kept allowed)
@@ -79,7 +79,7 @@ module _ {D : Type 0} (round : Round) (f : RoundFlow D) (stands : D → Lists �
   round_on (Err (rounds.Memory report)) (inl (more, turns)) = let o = has_turns_on report more f.now f.left f.still turns in (o.0, o.1, inl (more, o.2 o.0))
   round_on (Err (rounds.Memory report)) (inr stops) = let o = stops_behind_on report chains.Memory stops in (o.0, o.1, inr o.2)
 
-module _ {D : Type 0} (leads : D → D → List Asking → ℕ → Type 0) (stands : D → Lists → Type 0) (on : StandsOn leads stands) (site : Site) (now : ℕ) where
+module _ {D : Type 0} (leads : D → D → List Asking → ℕ → Type 0) (stands : D → Lists → Type 0) (on : StandsOn leads list_leads stands) (site : Site) (now : ℕ) where
   -- rounds, one after the other
   rounds_on : (spooler : ℕ) (a b : D) (lists : Lists) (kept left : Keeping) (reports : List (List TaskLine)) → stands a lists
       → RoundsLead leads site now spooler a kept reports b left

@@ -1,6 +1,7 @@
 pub mod Pipe
 pub mod Replying
 pub mod Load
+pub mod Kept
 pub mod Run
 pub mod PipeSteps
 pub mod LoadSteps

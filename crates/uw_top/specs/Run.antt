@@ -1,5 +1,5 @@
 -- A command over its configuration.
-use Rattle.std.specs.Prelude.{◌≡◌, ℕ, ◌+◌, ◌<◌, ◌≤◌, ◌⊎◌, Bool, true, false, List, [], ◌∷◌, length, Option, None, Some, Result, Ok, Err}
+use Rattle.std.specs.Prelude.{◌≡◌, ℕ, ◌+◌, ◌<◌, ◌≤◌, ◌⊎◌, Bool, true, false, List, [], length, Option, None, Some, Result, Ok, Err}
 use Rattle.uw_outside.specs.Faults.{Rose}
 use Rattle.uw_outside.specs.Streams.{Takes}
 use Rattle.uw_outside.specs.Streams.{Inflow, Outflow}
@@ -27,7 +27,9 @@ use Rattle.uw_ends.specs.declared.ends.RunFault.{RunFault}
 use Rattle.uw_ends.specs.declared.ends.RunFault.TheVariants as faults
 use Rattle.uw_ends.specs.declared.ends.RunEnd.{RunEnd}
 use Rattle.uw_top.specs.Load.{LoadRun}
-use Rattle.uw_top.specs.Pipe.{PipeRun, both_lead, first_lists, list_leads, unbounded}
+use Rattle.uw_shared.specs.Regions.{Regions}
+use Rattle.uw_top.specs.Kept.{PipeFlow, PipesOver}
+use Rattle.uw_top.specs.Pipe.{first_lists, list_leads}
 use Rattle.uw_top.specs.Spool.{SpoolRun}
 
 -- what a text says, or why it is refused, where the maker of patterns had these counts of faults before and after
@@ -80,7 +82,7 @@ Runs before after said r untouched fault Ran =
 -- ---- the commands
 
 -- what a run has around it, over the call: its configuration, and how many patterns the maker had refused before and now; its source and its sink; which moments
--- its clock gave; and what its keeper keeps before and now
+-- its clock gave; what its keeper keeps before and now; and the desk that is kept before and now
 pub record Surroundings : Type 1 where
   pub conf : Inflow
   pub refused : ℕ
@@ -90,6 +92,8 @@ pub record Surroundings : Type 1 where
   pub gave : List ℕ → Type 0
   pub kept : Keeping
   pub left : Keeping
+  pub desk : Option Regions
+  pub desk_now : Option Regions
 
 -- that each object of a run is as it was
 pub record Sameness : Type 1 where
@@ -99,37 +103,40 @@ pub record Sameness : Type 1 where
   pub snk : Type 0
   pub clock : Type 0
   pub keep : Type 0
+  pub desk : Type 0
 
 -- all but the configuration and the maker of patterns is as it was, and no packet is told of
 abbrev pub IsUntouched : Sameness → RunEnd → Type 0
-IsUntouched same end = same.src × same.snk × same.clock × same.keep × (end.briefs ≡ [])
+IsUntouched same end = same.src × same.snk × same.clock × same.keep × same.desk × (end.briefs ≡ [])
 
 -- other words, or words for which there was no memory: nothing was read, and all is as it was
 abbrev pub RefusesCommand : Sameness → RunEnd → Type 0
 RefusesCommand same end = ((end.fault ≡ Some faults.Usage) ⊎ (end.fault ≡ Some faults.Memory)) × same.conf × same.make × IsUntouched same end
 
--- the command `pipe`: packets are answered over the plain lists of the site, by a worker that never dies
-abbrev pub Pipes : Surroundings → Sameness → RunEnd → Type 0
-Pipes s same end =
-    Runs s.refused s.refused_now IsSaid s.conf (IsUntouched same end) end.fault
-    (λ site. (lists : Lists) × PipeRun (both_lead list_leads) (first_lists site.options, s.kept) (lists, s.left) unbounded site s.src s.snk s.gave end.briefs end.fault)
+-- what `pipe` has around it
+abbrev pub pipe_flow : Surroundings → PipeFlow
+pipe_flow s = record { src = s.src; snk = s.snk; gave = s.gave; kept = s.kept; left = s.left; desk = s.desk; desk_now = s.desk_now }
+
+-- the command `pipe`: packets are answered by a worker that dies in place of the word writes of these numbers
+abbrev pub Pipes : List ℕ → Surroundings → Sameness → RunEnd → Type 0
+Pipes die s same end =
+    Runs s.refused s.refused_now IsSaid s.conf (IsUntouched same end) end.fault (λ site. PipesOver die site (pipe_flow s) (IsUntouched same end) end.briefs end.fault)
 
 -- the command `spool`: the rounds of all spoolers over the rows of the keeper
 abbrev pub Spools : Surroundings → Sameness → RunEnd → Type 0
 Spools s same end =
     Runs s.refused s.refused_now IsSaid s.conf (IsUntouched same end) end.fault
-    (λ site. same.src × (end.briefs ≡ []) × ((lists : Lists) × SpoolRun list_leads (first_lists site.options) lists s.kept s.left site s.snk s.gave end.fault))
+    (λ site. same.src × same.desk × (end.briefs ≡ []) × ((lists : Lists) × SpoolRun list_leads (first_lists site.options) lists s.kept s.left site s.snk s.gave end.fault))
 
 -- the command `load`: packets that it makes itself, and figures of their replies
 abbrev pub Loads : ℕ → ℕ → Surroundings → Sameness → RunEnd → Type 0
 Loads first count s same end =
     Runs s.refused s.refused_now IsSaidWithACache s.conf (IsUntouched same end) end.fault
-    (λ site. same.src × same.keep × (end.briefs ≡ []) × LoadRun site.options first count s.snk s.gave end.fault)
+    (λ site. same.src × same.keep × same.desk × (end.briefs ≡ []) × LoadRun site.options first count s.snk s.gave end.fault)
 
--- what a run did, by its command; `pipe` with deaths, `steps` and `serve` are not built here, and are refused as other words are
+-- what a run did, by its command; `steps` and `serve` are not built here, and are refused as other words are
 abbrev pub Does : Option Command → Surroundings → Sameness → RunEnd → Type 0
-Does (Some (commands.Pipe [])) s same end = Pipes s same end
-Does (Some (commands.Pipe (death ∷ deaths))) s same end = RefusesCommand same end
+Does (Some (commands.Pipe die)) s same end = Pipes die s same end
 Does (Some commands.Spool) s same end = Spools s same end
 Does (Some (commands.Load first count)) s same end = Loads first count s same end
 Does (Some commands.Steps) s same end = RefusesCommand same end

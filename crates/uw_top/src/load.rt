@@ -22,10 +22,11 @@ use uw_chain::Searches;
 use uw_conf::Conf;
 use uw_ends::{BadPacket, RunFault};
 use uw_keeper::MemKeeper;
-use uw_model::{Answer, AskAnswer, Desk, ListDesk, OwnDesk};
+use uw_model::{Answer, AskAnswer, Desk, OwnDesk};
 use uw_outside::{Clock, Immortal, Sink, put_all};
 use uw_packet::{Header, Packet, write_vars};
 use uw_session::{Answered, ServeFault, answer_packet};
+use uw_shared::LocalDesk;
 
 /// How many packets were answered, how many of the replies were of each kind, and the bytes of all replies.
 #[derive(Clone, Copy, Debug, PartialEq, Eq)]
@@ -274,7 +275,7 @@ pub fn loaded<K: Sink, C: Clock>(
         (outflow K.taken K.faults snk.old snk.new)
         (C.gave clock.old clock.new) result }
 {
-    let mut desk = match ListDesk::new(alloc, &conf.caches, &conf.areas) {
+    let mut desk = match LocalDesk::new(alloc, &conf.caches, &conf.areas) {
         Ok(desk) => desk,
         Err(_) => return Some(RunFault::Memory),
     };

@@ -22,8 +22,9 @@ use uw_chain::Searches;
 use uw_conf::Conf;
 use uw_ends::RunFault;
 use uw_keeper::Keeper;
-use uw_model::{Desk, ListDesk, OwnDesk};
+use uw_model::{Desk, OwnDesk};
 use uw_outside::{Clock, Immortal, Sink, put_all};
+use uw_shared::LocalDesk;
 use uw_spool::{Outcome, RoundFault, RoundReport, TaskLine, round_with};
 
 // Puts what came of a row at the end of a text.
@@ -236,7 +237,7 @@ pub fn spooled<K: Sink, C: Clock, P: Keeper>(
         (C.gave clock.old clock.new) result }
 {
     let now = clock.now();
-    let mut desk = match ListDesk::new(alloc, &conf.caches, &conf.areas) {
+    let mut desk = match LocalDesk::new(alloc, &conf.caches, &conf.areas) {
         Ok(desk) => desk,
         Err(_) => return Some(RunFault::Memory),
     };

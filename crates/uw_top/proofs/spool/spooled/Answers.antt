@@ -6,9 +6,10 @@ use Rattle.uw_model.specs.Asks.{DeskParts}
 use Rattle.uw_rules.specs.PartNumbers.{AskPartsBelow}
 use Rattle.uw_rules.specs.Compiled.{rules_of}
 use Rattle.uw_conf.specs.declared.conf.Options.{Options}
+use Rattle.uw_shared.specs.Regions.{RegionsStandFor}
 use Rattle.uw_top.specs.Pipe.{first_lists, list_leads}
 use Rattle.uw_top.specs.SpoolSteps.{RoundsRun}
-use Rattle.uw_top.proofs.Parts.{empty_parts}
+use Rattle.uw_top.proofs.Parts.{region_parts}
 use Rattle.uw_top.proofs.SpoolLemmas.{no_round, spool_run}
 use Rattle.uw_top.proofs.spool.spooled.Goals as goal
 
@@ -28,7 +29,7 @@ returns-in-Err-new g c = record {
 
 pub spool-requires-clause-known : goal.spool-requires-clause-known
 spool-requires-clause-known g c =
-    subst (λ (parts : DeskParts). AskPartsBelow parts (rules_of c.args.conf.tasks)) (sym (empty_parts c.args.conf c.in-Ok.desk c.in-Ok.ensures)) c.requires.known
+    subst (λ (parts : DeskParts). AskPartsBelow parts (rules_of c.args.conf.tasks)) (sym (region_parts c.args.conf c.in-Ok.desk c.in-Ok.ensures.stand)) c.requires.known
 
 pub returns : goal.returns
 returns g c = record {
@@ -36,9 +37,7 @@ returns g c = record {
       let snk = outflow g.K.Sink.taken g.K.Sink.faults c.args.snk.now c.spool.new.snk in
       let kept : Keeping = keeping g.P.Keeper.rows g.P.Keeper.append_faults g.P.Keeper.other_faults c.args.keep.now in
       let left : Keeping = keeping g.P.Keeper.rows g.P.Keeper.append_faults g.P.Keeper.other_faults c.spool.new.keep in
-      let behind : Lists = c.spool.new.desk in
-      let empty : c.in-Ok.desk ≡ first_lists site.options = c.in-Ok.ensures ∙ ap (λ (options : Options). first_lists options) is.options in
-      let Ran : Lists → Type 0 = λ lists. RoundsRun list_leads site c.now-now.result lists behind kept left snk c.spool.result in
-      let ran : Ran c.in-Ok.desk = c.spool.ensures.spools site is in
-      (behind, spool_run list_leads site c.now-now.result (first_lists site.options) behind kept left snk _ c.spool.result c.now-now.ensures (subst Ran empty ran));
+      let stand = subst (λ (lists : Lists). RegionsStandFor c.in-Ok.desk lists) (ap (λ (options : Options). first_lists options) is.options) c.in-Ok.ensures.stand in
+      let ran = c.spool.ensures.stands site (first_lists site.options) is stand in
+      (ran.0, spool_run list_leads site c.now-now.result (first_lists site.options) ran.0 kept left snk _ c.spool.result c.now-now.ensures ran.2);
 }
