@@ -32,7 +32,8 @@ use Rattle.uw_items.specs.Items.{HoldsValue, block_place}
 use Rattle.uw_items.proofs.Held.{key_back}
 use Rattle.uw_items.proofs.FreeItems.{free_depends}
 use Rattle.uw_plan.specs.Agreement.{AgreesAs, FitsList, is_covered}
-use Rattle.uw_plan.specs.CallSteps.{IsItemOf, entry_at}
+use Rattle.uw_plan.specs.CallSteps.{IsItemOf}
+use Rattle.uw_plan.specs.KeyEntries.{entry_at}
 use Rattle.uw_plan.specs.EntrySteps.{zone_of}
 use Rattle.uw_plan.specs.Parts.{AllBytes, HoldEntries, HoldsEntry, HoldsParts, Parts}
 use Rattle.uw_plan.specs.Plans.{Costs, IsInUse, IsPaired}

@@ -27,7 +27,8 @@ use Rattle.uw_plan.specs.Parts.{HoldEntries}
 use Rattle.uw_plan.specs.Agreement.{AgreesAs}
 use Rattle.uw_plan.specs.Bounds.{all_run_places}
 use Rattle.uw_plan.specs.Plans.{Costs, HasRoomFor, IsInUse, item_run_places}
-use Rattle.uw_plan.specs.CallSteps.{Enters, HasSpare, HasSpareFor, IsItemOf, Leaves, entry_at}
+use Rattle.uw_plan.specs.CallSteps.{Enters, HasSpare, HasSpareFor, IsItemOf, Leaves}
+use Rattle.uw_plan.specs.KeyEntries.{entry_at}
 use Rattle.uw_plan.proofs.Agreeing.{entries_once}
 use Rattle.uw_plan.proofs.Shapes.{shape_of_conf}
 use Rattle.uw_plan.proofs.Counting.{costs_then, room_of_spare, spare_after, spare_less}

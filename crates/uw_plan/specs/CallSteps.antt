@@ -1,6 +1,5 @@
 -- The steps by which a call on a cache is planned, whatever was planned before them (own rule).
-use Rattle.std.specs.Prelude.{◌≡◌, ◌⊎◌, ℕ, ◌+◌, ◌*◌, ◌≤◌, List, [], ◌∷◌, ◌++◌, find, length, Option, None, Some, unwrap_or, Bool, MatchBool, MatchOption}
-use Rattle.std.specs.Str.{bytes_eq}
+use Rattle.std.specs.Prelude.{◌≡◌, ◌⊎◌, ℕ, ◌+◌, ◌*◌, ◌≤◌, List, [], ◌∷◌, ◌++◌, length, Option, None, Some, unwrap_or, Bool, MatchBool, MatchOption}
 use Rattle.uw_model.specs.declared.conf.CacheConf.{CacheConf}
 use Rattle.uw_model.specs.declared.entries.Entry.{Entry}
 use Rattle.uw_model.specs.Entries.{new_entry, span}
@@ -20,10 +19,6 @@ use Rattle.uw_plan.specs.Regions.{shape_of}
 -- the words that a reader gives agree with some list
 abbrev pub HasEntries : (ℕ → ℕ) → CacheConf → Type 0
 HasEntries reader conf = (items : List ℕ) × (list : List Entry) × AgreesAs reader (shape_of conf) conf items list
-
--- the entry of a key, whether it is alive or not
-abbrev pub entry_at : List Entry → List ℕ → Option Entry
-entry_at list key = find (λ e. bytes_eq e.key key) list
 
 -- the item is the one that holds an entry, none where there is no entry
 abbrev pub IsItemOf : List ℕ → List Entry → Option Entry → Option ℕ → Type 0

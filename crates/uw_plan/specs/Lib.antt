@@ -7,6 +7,7 @@ pub mod BlankSteps
 pub mod Example
 pub mod Plans
 pub mod EntrySteps
+pub mod KeyEntries
 pub mod CallSteps
 pub mod Told
 pub mod CallPlanSteps

@@ -1,8 +1,9 @@
 -- The answer that the plan of a call tells (own rule).
-use Rattle.std.specs.Prelude.{◌≡◌, ℕ, ◌<◌, List, [], map}
+use Rattle.std.specs.Prelude.{◌≡◌, ℕ, ◌<◌, Bool, true, false, List, [], map}
 use Rattle.uw_model.specs.declared.conf.CacheConf.{CacheConf}
 use Rattle.uw_model.specs.declared.entries.Entry.{Entry}
 use Rattle.uw_model.specs.declared.calls.Call.{Call}
+use Rattle.uw_model.specs.declared.calls.Call.TheVariants as calls
 use Rattle.uw_model.specs.declared.calls.Answer.{Answer}
 use Rattle.uw_model.specs.declared.calls.Answer.TheVariants as answers
 use Rattle.uw_model.specs.Calls.{answer}
@@ -39,3 +40,15 @@ Tells conf words plan now told.KeyList answer =
 -- the answer told is that of each list with which the region agrees
 abbrev pub TellsOf : CacheConf → List ℕ → Plan → ℕ → Call → PlanAnswer → Type 0
 TellsOf conf words plan now call told = (list : List Entry) → Agrees conf words list → Tells conf words plan now told (answer conf list now call)
+
+-- an answer is told by a copy of bytes that the region has
+abbrev pub is_copied : PlanAnswer → Bool
+is_copied (told.Ready a) = false
+is_copied (told.ValueOf item) = true
+is_copied told.KeyList = true
+
+-- the call may answer with bytes that the region has: it asks for a value or for the keys
+abbrev pub may_copy : Call → Bool
+may_copy (calls.Get key) = true
+may_copy calls.Keys = true
+may_copy _ = false

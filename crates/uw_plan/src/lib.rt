@@ -7,6 +7,7 @@ mod entries;
 pub mod laws;
 mod lookup;
 mod near;
+mod place;
 mod plan;
 mod policies;
 mod put;
@@ -19,6 +20,7 @@ mod writes;
 
 pub use blank::blank_region;
 pub use entries::{add_entry, drop_entry};
+pub use place::first_block;
 pub use plan::{PlanAnswer, plan_call};
 pub use region::{frame_of, shape_of};
 pub use tells::told;

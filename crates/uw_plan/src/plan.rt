@@ -1,5 +1,5 @@
 // Each call of a cache as planned words.
-ghost use Rattle.std.specs.Prelude.{◌≡◌, ◌≤◌, IsTrue, List, [], length};
+ghost use Rattle.std.specs.Prelude.{◌≡◌, ◌≤◌, IsTrue, List, [], length, true};
 ghost use Rattle.uw_model.specs.declared.entries.Entry.{Entry};
 ghost use Rattle.uw_model.specs.Entries.{IsCacheConf};
 ghost use Rattle.uw_model.specs.Calls.{answer};
@@ -11,7 +11,7 @@ ghost use Rattle.uw_intent.specs.RightWrites.{IsRight};
 ghost use Rattle.uw_plan.specs.Agreement.{Agrees};
 ghost use Rattle.uw_plan.specs.CacheKind.{cache_kind};
 ghost use Rattle.uw_plan.specs.CallPlanSteps.{IsUnplanned, PlansFor};
-ghost use Rattle.uw_plan.specs.Told.{TellsOf};
+ghost use Rattle.uw_plan.specs.Told.{TellsOf, is_copied, may_copy};
 ghost use Rattle.uw_plan.specs.Regions.{frame_of, shape_of};
 
 use crate::reads::{plan_exists, plan_get, plan_num};
@@ -37,6 +37,7 @@ fn planned(ram: &Ram, conf: &CacheConf, moment: u64, call: &Call, over: &mut Ove
     ensures room { over.new.room ≡ over.old.room }
     ensures plan { PlansFor conf.now ram.now over.new moment call.now }
     ensures tells { TellsOf conf.now ram.now over.new moment call.now result }
+    ensures copies { is_copied result ≡ true → may_copy call.now ≡ true }
 {
     match call {
         Call::Get { key } => plan_get(ram, conf, over, moment, key.as_slice()),
@@ -97,6 +98,7 @@ pub fn plan_call(
         → IsRight (cache_kind conf.now) ram.now list moment call.now (answer conf.now list moment call.now)
         (commit_writes (frame_of (shape_of conf.now)) over.new.writes) }
     ensures tells { TellsOf conf.now ram.now over.new moment call.now result }
+    ensures copies { is_copied result ≡ true → may_copy call.now ≡ true }
     ensures refused { (list : List Entry) → Agrees conf.now ram.now list
         → IsTrue (is_refusal (answer conf.now list moment call.now)) → over.new.writes ≡ [] }
 {

@@ -1,5 +1,6 @@
 use Rattle.std.proofs.Common.{subst}
-use Rattle.uw_plan.specs.CallSteps.{IsItemOf, entry_at}
+use Rattle.uw_plan.specs.CallSteps.{IsItemOf}
+use Rattle.uw_plan.specs.KeyEntries.{entry_at}
 use Rattle.uw_plan.proofs.Writing.{key_gone, key_in_use, key_room, key_unheld}
 use Rattle.uw_plan.proofs.put.remove_key.Goals as goal
 
