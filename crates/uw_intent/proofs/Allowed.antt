@@ -58,7 +58,7 @@ module _ {S C A : Type 0} (k : Kind S C A) (start : S) where
 
     takes : (w : World C A) (made : Called C) → StandsFor k w.words (state_of k start w.history) → (now : World C A) × TakesLock k start w made now
     takes w made stands = elim (cases_eq (region w.words k.frame.gate) 0) [
-      | inl closed ↦ let begun = begins w made (standing_agree k is w.words (state_of k start w.history) stands closed) in (begun.0, inl (closed, begun.1))
+      | inl closed ↦ let begun = begins w made (standing_agree k w.words (state_of k start w.history) stands closed) in (begun.0, inl (closed, begun.1))
       | inr pending ↦ (_, inr (pending, refl))
     ]
 

@@ -11,4 +11,5 @@ pub mod RightCommits
 pub mod Worlds
 pub mod Histories
 pub mod Turns
+pub mod OneTurns
 pub mod Allowed

@@ -30,6 +30,9 @@ repairs_closed frame words gate = grind (arith, nat_tests)
 pub open_gate : (word : ℕ) (pending : Bool) → pending ≡ true → pending ≡ not (eqb word 0) → word ≢ 0
 open_gate word pending open_ is = grind (arith, nat_tests)
 
+pub shut_gate : (word : ℕ) (pending : Bool) → pending ≡ false → pending ≡ not (eqb word 0) → word ≡ 0
+shut_gate word pending is told = grind (arith, nat_tests)
+
 pub open_record : (frame : Frame) (words : List ℕ) → IsIntact frame words → region words frame.gate ≢ 0 → IsRecord frame words
 open_record frame words (inl closed) gate = absurd (gate closed)
 open_record frame words (inr whole) gate = whole.1

@@ -182,6 +182,10 @@ module _ (frame : Frame) (words : List ℕ) (is : IsFrame frame (length words)) 
 pub closed_applied : (frame : Frame) (words : List ℕ) → region words frame.gate ≡ 0 → applied frame words ≡ words
 closed_applied frame words closed = ap (λ (l : List WordWrite). words_after l words) (repairs_closed frame words closed)
 
+-- words that stand for a state agree with it where the gate is closed
+pub standing_agree : {S C A : Type 0} (k : Kind S C A) (words : List ℕ) (s : S) → StandsFor k words s → region words k.frame.gate ≡ 0 → k.agrees words s
+standing_agree k words s stands closed = subst (λ (l : List ℕ). k.agrees l s) (closed_applied k.frame words closed) stands.agrees
+
 module _ {S C A : Type 0} (k : Kind S C A) (is : IsLocal k) where
   abbrev frame : Frame
   frame = k.frame
@@ -191,10 +195,6 @@ module _ {S C A : Type 0} (k : Kind S C A) (is : IsLocal k) where
   agreeing_stand words s agrees =
       let closed : region words k.frame.gate ≡ 0 = is.gate words s agrees in
       record { intact = inl closed; agrees = subst (λ (l : List ℕ). k.agrees l s) (sym (closed_applied k.frame words closed)) agrees }
-
-  -- words that stand for a state agree with it where the gate is closed
-  pub standing_agree : (words : List ℕ) (s : S) → StandsFor k words s → region words k.frame.gate ≡ 0 → k.agrees words s
-  standing_agree words s stands closed = subst (λ (l : List ℕ). k.agrees l s) (closed_applied k.frame words closed) stands.agrees
 
   module _ (words : List ℕ) (s after : S) (todo : List WordWrite) (agrees : k.agrees words s) (gated : IsGated k words after todo) where
     abbrev fill : List WordWrite

@@ -198,3 +198,28 @@ module _ {S C A : Type 0} (k : Kind S C A) (start : S) where
             ends = (phase, refl, λ none. cc, refl, part.refused);
             spent = subst (Spends told left) (sym m) part.spent;
           }
+
+      -- how many writes each of these turns makes
+      module _ (before now : List ℕ) (told mid left : Option (List ℕ)) (todo : List WordWrite) (repaired : AllMade left_repairs w.words before told mid) where
+        abbrev Made : CallEnd A → Type 0
+        Made end = CallMade k (state_of k start w.history) before now mid left made.moment made.call todo end
+
+        pub given_writes : (answer : A) (call : Made (given answer))
+            → (call_turn before now told mid left todo (given answer) repaired call).writes ≡ length left_repairs + length todo
+        unfolding call_turn
+        given_writes answer call = refl
+
+        pub died_writes : (whole : Bool) (call : Made (died whole))
+            → (call_turn before now told mid left todo (died whole) repaired call).writes ≡ length left_repairs + call.2.count
+        unfolding call_turn
+        died_writes whole call = ap (λ (n : ℕ). length left_repairs + n) (length-take-le call.2.count todo (omega (arith, call.2.fewer)))
+
+        pub no_memory_writes : (call : Made no_memory)
+            → (call_turn before now told mid left todo no_memory repaired call).writes ≡ length left_repairs
+        unfolding call_turn
+        no_memory_writes call = refl
+
+      pub broken_writes : (now : List ℕ) (told left : Option (List ℕ)) (part : SomeMade left_repairs w.words now told left)
+          → (broken_turn now told left part).writes ≡ part.count
+      unfolding broken_turn
+      broken_writes now told left part = length-take-le part.count left_repairs (omega (arith, part.fewer))

@@ -118,7 +118,7 @@ module _ {S C A : Type 0} (k : Kind S C A) (start : S) where
     takes_holds w (held other phase) made now holds unheld takes = absurd unheld
     takes_holds w free made now holds unheld (inl (closed, begins)) = begins_holds w made now holds begins
     takes_holds w dead made now holds unheld (inl (closed, begins)) =
-        begins_holds w made now (standing_agree k is w.words (state_of k start w.history) holds closed) begins
+        begins_holds w made now (standing_agree k w.words (state_of k start w.history) holds closed) begins
     takes_holds w free made now holds unheld (inr (pending, same)) =
         repair_begins w made now (agreeing_stand k is w.words (state_of k start w.history) holds) same
     takes_holds w dead made now holds unheld (inr (pending, same)) = repair_begins w made now holds same
