@@ -1,5 +1,5 @@
 // A shared area.
-ghost use Rattle.std.specs.Prelude.{◌≡◌, ◌==◌, [], true, not, is_ok, IfOk, OnOk, OnErr, IsTrue};
+ghost use Rattle.std.specs.Prelude.{◌≡◌, ◌==◌, [], false, true, not, is_ok, IfOk, OnOk, OnErr, IsTrue};
 ghost use Rattle.uw_outside.specs.Faults.{HasCause};
 ghost use Rattle.uw_model.specs.declared.areas.AreaOp.{AreaOp};
 ghost use Rattle.uw_model.specs.AreaOps.{AreaState, IsAreaSize, blank_area};
