@@ -76,6 +76,7 @@ fn ran(alloc: Global, input: &[u8], snk: &mut BytesOut) -> Result<RunEnd, Fail> 
         snk,
         &mut Shown { time },
         &mut keep,
+        &mut None,
     ))
 }
 

@@ -63,6 +63,7 @@ fn ran(alloc: Global, case: &Case, input: &[u8], moments: &[u64]) -> Result<Repo
         &mut snk,
         &mut clock,
         &mut keep,
+        &mut None,
     );
     let mut rows = Vec::new(alloc);
     for row in keep.rows() {
@@ -91,6 +92,11 @@ const SET_AND_GET: &[u8] = b"\x6f\x06\x00\x01\x01\x00k\x01\x00v\x6f\x01\x00\x00k
 
 const OK_AND_VALUE: &[u8] = b"\x02\x00\x00\x00ok\x01\x00\x00\x00v";
 
+// A set by a worker that dies before it counts, or when it does; and a get behind it.
+const DEAD_ABSENT: &[u8] = b"\xff\xff\xff\xff\x00\x00\x00\x00\x00";
+
+const DEAD_WHOLE: &[u8] = b"\xff\xff\xff\xff\x01\x01\x00\x00\x00v";
+
 const USAGE: &[u8] = b"usage: uwsgi_server FILE SPOOL pipe, spool, steps, load or serve";
 
 // An empty run.
@@ -109,7 +115,7 @@ const PIPE: Case = Case {
     text: b"",
 };
 
-const CASES: [Case; 42] = [
+const CASES: [Case; 49] = [
     PIPE,
     // Rules that are refused, and rules that are taken.
     Case {
@@ -150,6 +156,51 @@ const CASES: [Case; 42] = [
     Case {
         input: b"\x6f\x01\x00\x00k",
         output: b"\x00\x00\x00\x00",
+        ..PIPE
+    },
+    // Workers that die in place of a word write: of the first one, of the one by which the call counts, of the next one, of
+    // the last one, and of one that never comes.
+    Case {
+        words: &["pipe", "--die", "1"],
+        input: SET_AND_GET,
+        output: DEAD_ABSENT,
+        ..PIPE
+    },
+    Case {
+        words: &["pipe", "--die", "50"],
+        input: SET_AND_GET,
+        output: DEAD_ABSENT,
+        ..PIPE
+    },
+    Case {
+        words: &["pipe", "--die", "51"],
+        input: SET_AND_GET,
+        output: DEAD_WHOLE,
+        ..PIPE
+    },
+    Case {
+        words: &["pipe", "--die=67"],
+        input: SET_AND_GET,
+        output: DEAD_WHOLE,
+        ..PIPE
+    },
+    Case {
+        words: &["pipe", "--die", "68"],
+        input: SET_AND_GET,
+        output: OK_AND_VALUE,
+        ..PIPE
+    },
+    // One that dies in the call, and then in its repair; and one that never comes to the second number.
+    Case {
+        words: &["pipe", "--die", "51,1"],
+        input: b"\x6f\x06\x00\x01\x01\x00k\x01\x00v\x6f\x01\x00\x00k\x6f\x01\x00\x00k",
+        output: b"\xff\xff\xff\xff\x01\xff\xff\xff\xff\x00\x01\x00\x00\x00v",
+        ..PIPE
+    },
+    Case {
+        words: &["pipe", "--die", "1,1000000000"],
+        input: SET_AND_GET,
+        output: DEAD_ABSENT,
         ..PIPE
     },
     // Packets that are refused or cut.
@@ -319,7 +370,7 @@ const CASES: [Case; 42] = [
         ..PIPE
     },
     Case {
-        words: &["pipe", "--die", "1"],
+        words: &["pipe", "--die", "0"],
         status: 1,
         text: USAGE,
         ..PIPE
