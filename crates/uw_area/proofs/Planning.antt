@@ -14,7 +14,7 @@ use Rattle.uw_model.specs.AreaLayout.{area_plan_room, area_words}
 use Rattle.uw_model.specs.AreaLaws.{is_area_write, op_end, op_start}
 use Rattle.uw_model.specs.AreaOps.{AreaState, area_answer, area_next, bytes_in_width, difference_in, number_at_place, sum_in, width_bits, width_bytes, with_bytes, within_area}
 use Rattle.uw_model.proofs.AreaLemmas.{spliced_size}
-use Rattle.uw_words.specs.Plans.{Plan, region, through}
+use Rattle.uw_words.specs.Plans.{HasDistinctPlaces, Plan, region, through}
 use Rattle.uw_words.specs.Numbers.{IsNoneOf, IsOneOf}
 use Rattle.uw_words.specs.Parts.{seen, places_of, with_place, with_places, HasRoom, GrewAt}
 use Rattle.uw_words.specs.Texts.{HoldsText}
@@ -119,6 +119,7 @@ plans_nothing size words op plan empty same = record {
   fits =
       subst (FitsRecord (area_frame size) (area_words size)) (sym empty)
       record { room = omega arith; targets = All-nil (λ planned. IsTarget (area_frame size) (area_words size) planned.0) };
+  once = subst HasDistinctPlaces (sym empty) (λ i j d early within. absurd (omega (arith, early, within)));
   gate = seen_none plan words 10 empty;
   next = λ area holds.
       subst (HoldsArea (seen plan words) size) (sym (same area holds))
@@ -157,7 +158,7 @@ module _ (size : ℕ) (words : List ℕ) (before mid now : Plan) (at : ℕ) (put
     module _ (small : All (λ byte. byte < 256) put)
         (spliced : (bytes : List ℕ) → All (λ byte. byte < 256) bytes → at + length put ≤ length bytes → HoldsText (seen before words) 16 bytes
         → HoldsText (seen mid words) 16 (splice bytes at (at + length put) put))
-        (counted : now ≡ put_on mid 2 ((seen mid words 2 + 1) % 2 ^ 64)) where
+        (counted : now ≡ put_on mid 2 ((seen mid words 2 + 1) % 2 ^ 64)) (once : HasDistinctPlaces now.writes) where
       all_grew : GrewAt places before now
       all_grew =
           grew_then row (2 ∷ []) before mid now grew (subst (GrewAt (2 ∷ []) mid) (sym counted) (grew_put mid 2 ((seen mid words 2 + 1) % 2 ^ 64)))
@@ -239,6 +240,7 @@ module _ (size : ℕ) (words : List ℕ) (before mid now : Plan) (at : ℕ) (put
                 | inr planned ↦ target place planned
               ]);
         };
+        once = once;
         gate = other 10 (omega arith) (λ same. omega (arith, same));
         next = put_next;
         few = put_few;
@@ -257,6 +259,7 @@ pub plans_as : (size : ℕ) (words : List ℕ) (op : AreaOp) (at : ℕ) (put : L
     → PlansOp size words op plan
 plans_as size words op at put plan writes start end same plans = record {
   fits = plans.fits;
+  once = plans.once;
   gate = plans.gate;
   next = λ area holds. subst (HoldsArea (seen plan words) size) (sym (same area holds)) (plans.next area holds);
   few = λ area holds. rw (writes, start, end) (plans.few area holds);

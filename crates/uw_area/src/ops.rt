@@ -56,6 +56,7 @@ fn put(size: u64, ram: &Ram, over: &mut Overlay, at: u64, put: &[u8])
     put_bytes(size, ram, over, at, put);
     let updates = over.load(ram, UPDATES);
     over.put(UPDATES, updates.wrapping_add(1));
+    let _ = over.count();
 }
 
 // Plans the words of what is left of a number in a width.

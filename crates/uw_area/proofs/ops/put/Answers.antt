@@ -18,4 +18,4 @@ pub returns-clause-plan : goal.returns-clause-plan
 returns-clause-plan c =
     let small : All (λ byte. byte < 256) c.args.put.now = All-from_get_or (λ byte. byte < 256) c.args.put.now 0 (λ i h. omega (arith, c.type_inv.put i)) in
     plans_write c.args.size c.args.ram.now c.args.over.now c.put_bytes.new.over c.put.new.self c.args.at c.args.put.now c.requires.unplanned c.requires.within c.requires.few
-    c.put_bytes.ensures.grew small c.put_bytes.ensures.bytes (counted_by c.put_bytes.new.over c.put.new.self c.args.ram.now _ _ c.load-updates.ensures refl c.put.ensures)
+    c.put_bytes.ensures.grew small c.put_bytes.ensures.bytes (counted_by c.put_bytes.new.over c.put.new.self c.args.ram.now _ _ c.load-updates.ensures refl c.put.ensures) c.count.ensures.distinct
