@@ -1,8 +1,8 @@
 -- What operations plan, and what they answer.
-use Rattle.std.proofs.Common.{◌≡◌, ◌≢◌, ◌⊎◌, inl, inr, ℕ, zero, suc, ◌+◌, ◌*◌, ◌-◌, ◌/◌, ◌%◌, ◌^◌, ◌<◌, ◌≤◌, nat_le, All, Bool, true, false, List, [], ◌∷◌, ◌++◌, length, refl, sym, ap, ◌∙◌, subst, arith, length-append, take, drop}
+use Rattle.std.proofs.Common.{◌≡◌, ◌≢◌, ◌⊎◌, inl, inr, ℕ, ◌+◌, ◌*◌, ◌/◌, ◌%◌, ◌^◌, ◌<◌, ◌≤◌, nat_le, All, Bool, true, false, List, [], ◌∷◌, ◌++◌, length, refl, sym, ap, ◌∙◌, subst, arith, length-append, take, drop}
 use Rattle.std.specs.List.{splice}
 use Rattle.std.proofs.lemmas.Bool.{cases_eq, le-leb}
-use Rattle.std.proofs.lemmas.Bool.Decides.{nat_tests, leb_tells}
+use Rattle.std.proofs.lemmas.Bool.Decides.{nat_tests}
 use Rattle.std.proofs.lemmas.List.Elements.{All-nil, All-cons, All-append, All-take, All-drop}
 use Rattle.uw_model.specs.declared.areas.AreaAnswer.{AreaAnswer}
 use Rattle.uw_model.specs.declared.areas.AreaAnswer.TheVariants as answers
@@ -12,13 +12,13 @@ use Rattle.uw_model.specs.declared.areas.Width.{Width}
 use Rattle.uw_model.specs.declared.areas.Width.TheVariants as widths
 use Rattle.uw_model.specs.AreaLayout.{area_plan_room, area_words}
 use Rattle.uw_model.specs.AreaLaws.{is_area_write, op_end, op_start}
-use Rattle.uw_model.specs.AreaOps.{AreaState, area_answer, area_next, bytes_in_width, difference_in, number_at_place, sum_in, width_bits, width_bytes, with_bytes, within_area}
+use Rattle.uw_model.specs.AreaOps.{AreaState, area_next, bytes_in_width, difference_in, number_at_place, sum_in, width_bytes, with_bytes, within_area}
 use Rattle.uw_model.proofs.AreaLemmas.{spliced_size}
 use Rattle.uw_words.specs.Plans.{HasDistinctPlaces, Plan, region, through}
 use Rattle.uw_words.specs.Numbers.{IsNoneOf, IsOneOf}
 use Rattle.uw_words.specs.Parts.{seen, places_of, with_place, with_places, HasRoom, GrewAt}
 use Rattle.uw_words.specs.Texts.{HoldsText}
-use Rattle.uw_words.proofs.Growth.{put_on, grew_put, grew_then, in_row, none_before, places-le-length, read_grown, read_other, read_put, room_now, room_then, row_length, spare_room, room_early}
+use Rattle.uw_words.proofs.Growth.{put_on, grew_put, grew_then, in_row, none_before, places-le-length, read_grown, read_other, read_put, room_then, row_length, spare_room, room_early}
 use Rattle.uw_intent.specs.declared.frame.Frame.{Frame}
 use Rattle.uw_intent.specs.RedoRecord.{FitsRecord, IsTarget, commit_writes}
 use Rattle.uw_intent.proofs.Listed.{length-commit_writes}

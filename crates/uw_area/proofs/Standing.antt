@@ -1,12 +1,12 @@
 -- What the words of an area stand for: at first, while an operation is committed, and behind it.
-use Rattle.std.proofs.Common.{◌≡◌, ◌≢◌, inl, inr, ℕ, zero, suc, ◌+◌, ◌*◌, ◌<◌, ◌≤◌, Bool, true, false, not, cond, eqb, All, List, [], ◌∷◌, Option, length, get_or, set, take, drop, replicate, refl, sym, ap, ◌∙◌, subst, arith}
+use Rattle.std.proofs.Common.{◌≡◌, ◌≢◌, inl, ℕ, zero, suc, ◌+◌, ◌*◌, ◌<◌, ◌≤◌, Bool, true, false, not, cond, eqb, All, List, Option, length, get_or, set, take, drop, replicate, refl, sym, ap, ◌∙◌, subst, arith}
 use Rattle.std.proofs.lemmas.List.{length-set, length-replicate, get_or-set_same, get_or-set_other, get_or-drop}
 use Rattle.std.proofs.lemmas.List.Elements.{All-replicate}
 use Rattle.uw_model.specs.declared.areas.AreaAnswer.{AreaAnswer}
 use Rattle.uw_model.specs.declared.areas.AreaOp.{AreaOp}
-use Rattle.uw_model.specs.AreaLayout.{area_plan_room, area_words}
-use Rattle.uw_model.specs.AreaOps.{AreaState, IsAreaSize, area_answer, area_next, blank_area}
-use Rattle.uw_words.specs.Plans.{HasDistinctPlaces, Plan, region}
+use Rattle.uw_model.specs.AreaLayout.{area_words}
+use Rattle.uw_model.specs.AreaOps.{AreaState, area_answer, area_next, blank_area}
+use Rattle.uw_words.specs.Plans.{Plan, region}
 use Rattle.uw_words.specs.Parts.{seen}
 use Rattle.uw_words.specs.Texts.{text_word}
 use Rattle.uw_intent.specs.declared.frame.Frame.{Frame}
@@ -16,7 +16,7 @@ use Rattle.uw_intent.specs.RedoRecord.{FitsRecord, IsBeyond, IsFrame, commit_wri
 use Rattle.uw_intent.specs.Standing.{IsLocal, StandsFor}
 use Rattle.uw_intent.specs.RightWrites.{has_opened, IsRight}
 use Rattle.uw_intent.specs.CallTurns.{CallEnd, given, died, no_memory}
-use Rattle.uw_intent.specs.OneTurn.{IsCommitted, joins, state_behind}
+use Rattle.uw_intent.specs.OneTurn.{state_behind}
 use Rattle.uw_intent.proofs.Listed.{copies_within}
 use Rattle.uw_intent.proofs.Progress.{length-made}
 use Rattle.uw_intent.proofs.Rights.{agreeing_stand, right_stand, right_agree, right_gate, standing_agree}

@@ -67,9 +67,27 @@ fn put_number(size: u64, ram: &Ram, over: &mut Overlay, at: u64, width: Width, n
     ensures plan { PlansOp size ram.now (ops.Write at (bytes_in_width width number)) over.new }
 {
     match width {
-        Width::W8 => put(size, ram, over, at, &((number % (1 << 8)) as u8).to_le_bytes()),
-        Width::W16 => put(size, ram, over, at, &((number % (1 << 16)) as u16).to_le_bytes()),
-        Width::W32 => put(size, ram, over, at, &((number % (1 << 32)) as u32).to_le_bytes()),
+        Width::W8 => put(
+            size,
+            ram,
+            over,
+            at,
+            &((number % (1 << 8)) as u8).to_le_bytes(),
+        ),
+        Width::W16 => put(
+            size,
+            ram,
+            over,
+            at,
+            &((number % (1 << 16)) as u16).to_le_bytes(),
+        ),
+        Width::W32 => put(
+            size,
+            ram,
+            over,
+            at,
+            &((number % (1 << 32)) as u32).to_le_bytes(),
+        ),
         Width::W64 => put(size, ram, over, at, &number.to_le_bytes()),
     }
 }
@@ -101,7 +119,14 @@ fn read_num(size: u64, ram: &Ram, at: u64, width: Width) -> AreaAnswer
     AreaAnswer::Number(number_at(size, ram, at, width))
 }
 
-fn write_num(size: u64, ram: &Ram, over: &mut Overlay, at: u64, width: Width, value: u64) -> AreaAnswer
+fn write_num(
+    size: u64,
+    ram: &Ram,
+    over: &mut Overlay,
+    at: u64,
+    width: Width,
+    value: u64,
+) -> AreaAnswer
     requires { IsUnplanned size ram.now over.old }
     ensures room { over.new.room ≡ over.old.room }
     ensures answer { (area : AreaState) → HoldsArea (region ram.now) size area
@@ -147,7 +172,13 @@ fn dec_num(size: u64, ram: &Ram, over: &mut Overlay, at: u64, width: Width, by: 
 
 // Plans the words by which a region comes to hold the area after an operation, and says what it answers. Only a read takes
 // memory.
-pub(crate) fn plan_op(alloc: Global, size: u64, ram: &Ram, over: &mut Overlay, op: &AreaOp) -> Result<AreaAnswer, Memory>
+pub(crate) fn plan_op(
+    alloc: Global,
+    size: u64,
+    ram: &Ram,
+    over: &mut Overlay,
+    op: &AreaOp,
+) -> Result<AreaAnswer, Memory>
     requires { IsUnplanned size ram.now over.old }
     ensures room { over.new.room ≡ over.old.room }
     ensures answer { IfOk result (λ answer. (area : AreaState) → HoldsArea (region ram.now) size area → answer ≡ area_answer area op.now) }
@@ -158,7 +189,9 @@ pub(crate) fn plan_op(alloc: Global, size: u64, ram: &Ram, over: &mut Overlay, o
         AreaOp::Read { at, len } => read(alloc, size, ram, *at, *len),
         AreaOp::Write { at, bytes } => Ok(write(size, ram, over, *at, bytes.as_slice())),
         AreaOp::ReadNum { at, width } => Ok(read_num(size, ram, *at, *width)),
-        AreaOp::WriteNum { at, width, value } => Ok(write_num(size, ram, over, *at, *width, *value)),
+        AreaOp::WriteNum { at, width, value } => Ok(write_num(
+            size, ram, over, *at, *width, *value,
+        )),
         AreaOp::IncNum { at, width, by } => Ok(inc_num(size, ram, over, *at, *width, *by)),
         AreaOp::DecNum { at, width, by } => Ok(dec_num(size, ram, over, *at, *width, *by)),
         AreaOp::Updates => Ok(AreaAnswer::Number(ram.load(UPDATES))),

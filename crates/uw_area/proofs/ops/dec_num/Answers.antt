@@ -1,4 +1,4 @@
-use Rattle.std.proofs.Common.{◌≡◌, ◌+◌, ◌≤◌, ℕ, nat_le, length, sym, ◌∙◌, ap, subst}
+use Rattle.std.proofs.Common.{ℕ, sym, ◌∙◌, ap, subst}
 use Rattle.uw_model.specs.declared.areas.AreaAnswer.TheVariants as answers
 use Rattle.uw_model.specs.AreaOps.{area_answer, width_bytes, number_at_place, difference_in, bytes_in_width}
 use Rattle.uw_model.specs.declared.areas.AreaOp.TheVariants as ops

@@ -1,6 +1,5 @@
-use Rattle.std.proofs.Common.{◌≡◌, ap, ◌∙◌, subst, sym}
+use Rattle.std.proofs.Common.{ap, ◌∙◌, subst, sym}
 use Rattle.uw_model.specs.declared.areas.AreaAnswer.TheVariants as answers
-use Rattle.uw_model.specs.declared.areas.AreaOp.TheVariants as ops
 use Rattle.uw_model.specs.declared.areas.AreaOp.{AreaOp}
 use Rattle.uw_model.specs.AreaOps.{area_answer}
 use Rattle.uw_area.specs.AreaSteps.{PlansOp}

@@ -1,6 +1,6 @@
-use Rattle.std.proofs.Common.{◌≡◌, ◌+◌, ◌≤◌, ◌<◌, All, [], ℕ, arith, refl}
+use Rattle.std.proofs.Common.{◌<◌, All, [], arith, refl}
 use Rattle.std.proofs.lemmas.List.Elements.{All-from_get_or}
-use Rattle.uw_words.proofs.Growth.{put_on, room_now}
+use Rattle.uw_words.proofs.Growth.{room_now}
 use Rattle.uw_area.proofs.Planning.{plans_write, row_room, count_room, counted_by}
 use Rattle.uw_area.proofs.ops.put.Goals as goal
 

@@ -3,7 +3,6 @@ use Rattle.std.specs.Int.{w64, to_le_bytes}
 use Rattle.uw_model.specs.declared.areas.AreaOp.TheVariants as ops
 use Rattle.uw_model.specs.AreaOps.{bytes_in_width}
 use Rattle.uw_model.specs.declared.areas.Width.{Width}
-use Rattle.uw_model.specs.declared.areas.Width.TheVariants as widths
 use Rattle.uw_area.specs.AreaSteps.{PlansOp}
 use Rattle.uw_area.proofs.ops.put_number.Goals as goal
 

@@ -1,4 +1,4 @@
-use Rattle.std.proofs.Common.{◌≡◌, ◌+◌, ◌≤◌, ℕ, nat_le, slice_range, sym, ◌∙◌, ap}
+use Rattle.std.proofs.Common.{◌+◌, slice_range, sym, ◌∙◌, ap}
 use Rattle.uw_model.specs.declared.areas.AreaAnswer.TheVariants as answers
 use Rattle.uw_model.specs.AreaOps.{area_answer}
 use Rattle.uw_area.proofs.Planning.{answered, refused}

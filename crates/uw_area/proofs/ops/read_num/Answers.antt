@@ -1,4 +1,4 @@
-use Rattle.std.proofs.Common.{◌≡◌, ◌+◌, ◌≤◌, ℕ, nat_le, length, sym, ◌∙◌, ap}
+use Rattle.std.proofs.Common.{sym, ◌∙◌, ap}
 use Rattle.uw_model.specs.declared.areas.AreaAnswer.TheVariants as answers
 use Rattle.uw_model.specs.AreaOps.{area_answer, width_bytes, number_at_place}
 use Rattle.uw_area.proofs.Planning.{answered, refused, told_inside}

@@ -1,4 +1,4 @@
-use Rattle.std.proofs.Common.{◌≡◌, ◌+◌, ◌≤◌, length, sym, ◌∙◌, ap}
+use Rattle.std.proofs.Common.{length, sym, ◌∙◌}
 use Rattle.uw_model.specs.declared.areas.AreaAnswer.TheVariants as answers
 use Rattle.uw_model.specs.AreaOps.{area_answer}
 use Rattle.uw_area.proofs.Planning.{answered, refused, plans_refused}

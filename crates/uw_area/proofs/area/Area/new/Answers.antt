@@ -1,4 +1,4 @@
-use Rattle.std.proofs.Common.{◌≡◌, refl, sym, ap, ◌∙◌, subst}
+use Rattle.std.proofs.Common.{sym, ap, ◌∙◌, subst}
 use Rattle.uw_model.specs.AreaOps.{blank_area}
 use Rattle.uw_intent.proofs.Rights.{agreeing_stand}
 use Rattle.uw_area.specs.declared.area.Held.{Held}
