@@ -1,0 +1,4 @@
+pub mod AreaWords
+pub mod AreaKind
+pub mod AreaViews
+pub mod AreaSteps
