@@ -108,7 +108,7 @@ impl Vault {
     /// The first block of the entry of a key, whether it is alive or not. None where no entry has the key. Takes no
     /// memory.
     pub fn place(&self, key: &[u8]) -> Option<u64>
-        requires { region self.now.words (vault_frame self.now).gate ≡ 0 }
+        requires idle { region self.now.words (vault_frame self.now).gate ≡ 0 }
         ensures { (list : List Entry) → Agrees self.now.conf self.now.words list → result ≡ first_block list key.now }
     {
         first_block(&self.held.ram, &self.held.conf, &self.held.blank, key)
