@@ -1,0 +1,4 @@
+pub mod ByteWords
+pub mod Splices
+pub mod Planning
+pub mod Standing

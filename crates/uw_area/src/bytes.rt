@@ -62,12 +62,12 @@ pub(crate) fn bytes_at(alloc: Global, size: u64, ram: &Ram, at: u64, len: u64) -
         → bytes ≡ slice_range area.bytes at (at + len)) }
 {
     let first = at / 8;
-    let mut skip = (at % 8) as usize;
+    let skip = (at % 8) as usize;
     let mut bytes = Vec::with_capacity(alloc, len as usize + 7)?;
     for k in 0..(at + len).div_ceil(8) - first {
         let word = ram.load(HEAD_WORDS + first + k).to_le_bytes();
-        bytes.extend_from_slice(&word[skip..])?;
-        skip = 0;
+        let from = if k == 0 { skip } else { 0 };
+        bytes.extend_from_slice(&word[from..])?;
     }
     bytes.truncate(len as usize);
     Ok(Bytes::from_vec(bytes))
