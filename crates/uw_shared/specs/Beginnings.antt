@@ -12,14 +12,14 @@ use Rattle.uw_area.specs.AreaWords.{AgreesWithArea}
 use Rattle.uw_area.specs.AreaViews.{AreaView}
 
 -- a vault begins with this configuration, and its words agree with no entry
-pub record BeginsAsCache (conf : CacheConf) (vault : VaultView) : Type 0 where
-  pub conf : vault.conf ≡ conf
-  pub empty : Agrees conf vault.words []
+pub record BeginsAsCache (wanted : CacheConf) (vault : VaultView) : Type 0 where
+  pub conf : vault.conf ≡ wanted
+  pub empty : Agrees wanted vault.words []
 
 -- an area begins with this size, and its words agree with zero bytes
-pub record BeginsAsArea (size : ℕ) (area : AreaView) : Type 0 where
-  pub size : area.size ≡ size
-  pub blank : AgreesWithArea size area.words (blank_area size)
+pub record BeginsAsArea (wanted : ℕ) (area : AreaView) : Type 0 where
+  pub size : area.size ≡ wanted
+  pub blank : AgreesWithArea wanted area.words (blank_area wanted)
 
 -- what a desk answers where a call of one of its regions ended so
 abbrev pub desk_result : {A : Type 0} → Result A CallFault → Result A DeskFault

@@ -1,6 +1,6 @@
 -- The regions of a desk, and the plain lists for which they stand (own rule).
-use Rattle.std.specs.Prelude.{◌≡◌, ℕ, ◌==◌, ◌&&◌, Bool, List, All, length}
-use Rattle.std.specs.List.{AllZip, list_all}
+use Rattle.std.specs.Prelude.{◌≡◌, ℕ, ◌==◌, ◌&&◌, Bool, List, length}
+use Rattle.std.specs.List.{AllByRecursion, AllZip, list_all}
 use Rattle.std.proofs.Common.{ap₂}
 use Rattle.std.proofs.lemmas.Slice.Zip.{AllZip-long}
 use Rattle.uw_model.specs.Asks.{DeskParts}
@@ -45,6 +45,6 @@ is_settled regions =
 
 -- what the regions of a desk are at any time: the configurations are within their limits, and the words stand for some lists
 pub record AreRegions (regions : Regions) : Type 0 where
-  pub limits : All (λ (vault : VaultView). IsCacheConf vault.conf) regions.caches
+  pub limits : AllByRecursion (λ (vault : VaultView). IsCacheConf vault.conf) regions.caches
   pub lists : Lists
   pub stand : RegionsStandFor regions lists
