@@ -48,11 +48,11 @@ const CASES: [Case; 8] = [
         what: What::Set(b"d", b"01234567012345670123456701", 0),
     },
     Case {
-        name: "an update in other blocks",
+        name: "an update in more blocks",
         purges: false,
         fill: FILL,
         given_up: Some(What::Clear),
-        what: What::Update(b"a", b"01234567012345670", 9),
+        what: What::Update(b"c", b"01234567012345670", 9),
     },
     Case {
         name: "a removal",
@@ -119,7 +119,7 @@ struct Stopped {
     whole: bool,
 }
 
-fn stopped(alloc: Global, case: &Case, n: u64) -> Result<Stopped, Memory> {
+fn stop(alloc: Global, case: &Case, n: u64) -> Result<Stopped, Memory> {
     let mut vault = filled(alloc, case)?;
     let call = call_of(alloc, case.what)?;
     let mut life = dies_at(alloc, n)?;
@@ -150,7 +150,7 @@ fn try_repairs(alloc: Global, case: &Case, n: u64) -> Result<Option<(bool, bool)
             mut vault,
             ended,
             whole,
-        } = stopped(alloc, case, n)?;
+        } = stop(alloc, case, n)?;
         if vault.is_pending() != (whole && !ended) {
             return Ok(None);
         }
@@ -180,8 +180,8 @@ fn each_death_leaves_the_list_before_or_the_one_behind(rt: HostRuntime) -> Resul
             assert!(rt; tried.is_some(), "{name}: {n}");
             match tried {
                 Some((_, true)) | None => break,
-                Some((false, false)) => absent += 1,
-                Some((true, false)) => whole += 1,
+                Some((false, false)) => absent = absent.saturating_add(1),
+                Some((true, false)) => whole = whole.saturating_add(1),
             }
         }
         // Three writes of the record for each planned word, and its used word; then the copies, and the gate closes.
