@@ -1,11 +1,10 @@
 -- Bytes put in place of others: the words that are planned, one after the other.
-use Rattle.std.proofs.Common.{◌≡◌, ◌≢◌, ◌⊎◌, inl, inr, ℕ, zero, suc, ◌+◌, ◌*◌, ◌-◌, ◌/◌, ◌<◌, ◌≤◌, All, List, [], ◌∷◌, ◌++◌, length, refl, sym, ap, ◌∙◌, subst, arith}
-use Rattle.std.specs.Int.{div_ceil}
+use Rattle.std.proofs.Common.{◌≡◌, ◌⊎◌, inl, inr, ℕ, zero, suc, ◌+◌, ◌*◌, ◌-◌, ◌/◌, ◌<◌, ◌≤◌, All, List, [], ◌∷◌, length, sym, ap, ◌∙◌, subst, arith}
 use Rattle.std.specs.List.{splice}
 use Rattle.std.proofs.lemmas.Bool.{cases_eq, cases_lt}
 use Rattle.uw_model.proofs.AreaLemmas.{spliced_size}
 use Rattle.uw_words.specs.Plans.{Plan, region, Names}
-use Rattle.uw_words.specs.Numbers.{IsNoneOf, IsOneOf, places_from}
+use Rattle.uw_words.specs.Numbers.{IsNoneOf, places_from}
 use Rattle.uw_words.specs.Parts.{seen, HasRoom, GrewAt}
 use Rattle.uw_words.specs.Texts.{text_word, HoldsText}
 use Rattle.uw_words.proofs.Growth.{put_on, grew_none, grew_put, grew_then, read_put, read_other, read_grown, none_before, places_split}

@@ -5,7 +5,7 @@ use Rattle.uw_model.specs.declared.areas.AreaOp.{AreaOp}
 use Rattle.uw_model.specs.Layout.{head_words}
 use Rattle.uw_model.specs.AreaLayout.{area_plan_room, area_words}
 use Rattle.uw_model.specs.AreaOps.{AreaState, IsAreaSize, area_next}
-use Rattle.uw_words.specs.Plans.{Plan, region}
+use Rattle.uw_words.specs.Plans.{HasDistinctPlaces, Plan, region}
 use Rattle.uw_words.specs.Numbers.{places_from}
 use Rattle.uw_words.specs.Parts.{seen}
 use Rattle.uw_words.specs.Texts.{text_word}
@@ -24,9 +24,10 @@ pub record IsUnplanned (size : ℕ) (words : List ℕ) (plan : Plan) : Type 0 wh
   pub empty : plan.writes ≡ []
   pub room : plan.room ≡ area_plan_room size
 
--- what is planned for an operation: it fits the record and leaves the gate; through it the area after the operation is read; and it is not too much
+-- what is planned for an operation: it fits the record, names each place once, and leaves the gate; through it the area after the operation is read; and it is not too much
 pub record PlansOp (size : ℕ) (words : List ℕ) (op : AreaOp) (plan : Plan) : Type 0 where
   pub fits : FitsRecord (area_frame size) (area_words size) plan.writes
+  pub once : HasDistinctPlaces plan.writes
   pub gate : seen plan words 10 ≡ region words 10
   pub next : (area : AreaState) → HoldsArea (region words) size area → HoldsArea (seen plan words) size (area_next area op)
   pub few : (area : AreaState) → HoldsArea (region words) size area → length (commit_writes (area_frame size) plan.writes) ≤ most_area_writes area op

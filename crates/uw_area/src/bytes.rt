@@ -55,7 +55,13 @@ pub(crate) fn number_at(size: u64, ram: &Ram, at: u64, width: Width) -> u64
 }
 
 // A copy of the bytes of a slice that lies within the area.
-pub(crate) fn bytes_at(alloc: Global, size: u64, ram: &Ram, at: u64, len: u64) -> Result<Bytes, Memory>
+pub(crate) fn bytes_at(
+    alloc: Global,
+    size: u64,
+    ram: &Ram,
+    at: u64,
+    len: u64,
+) -> Result<Bytes, Memory>
     requires region { IsRegion size ram.now }
     requires within { at + len ≤ size }
     ensures { IfOk result (λ bytes. (area : AreaState) → HoldsArea (region ram.now) size area

@@ -1,6 +1,6 @@
 // The widths of numbers.
 ghost use Rattle.std.specs.Prelude.{◌≡◌, ◌%◌, ◌^◌};
-ghost use Rattle.uw_model.specs.AreaOps.{width_bits, width_bytes};
+ghost use Rattle.uw_model.specs.AreaOps.{difference_in, sum_in, width_bits, width_bytes};
 
 use uw_model::Width;
 
@@ -17,7 +17,7 @@ pub(crate) fn bytes_of(width: Width) -> u64
 }
 
 // What is left of a number in a width.
-pub(crate) fn left_in(width: Width, number: u64) -> u64
+fn left_in(width: Width, number: u64) -> u64
     ensures { result ≡ number % 2 ^ width_bits width }
 {
     match width {
@@ -26,4 +26,18 @@ pub(crate) fn left_in(width: Width, number: u64) -> u64
         Width::W32 => number % (1 << 32),
         Width::W64 => number,
     }
+}
+
+// The sum of numbers of a width, which wraps.
+pub(crate) fn sum_of(width: Width, number: u64, by: u64) -> u64
+    ensures { result ≡ sum_in width number by }
+{
+    left_in(width, number.wrapping_add(by))
+}
+
+// The difference of numbers of a width, which wraps.
+pub(crate) fn difference_of(width: Width, number: u64, by: u64) -> u64
+    ensures { result ≡ difference_in width number by }
+{
+    left_in(width, number.wrapping_sub(by))
 }

@@ -1,4 +1,4 @@
-use Rattle.std.proofs.Common.{ℕ, List, get_or, ap, ◌∙◌, ◌/◌, ◌%◌, ◌<◌, ◌+◌, subst, sym}
+use Rattle.std.proofs.Common.{ℕ, List, get_or, ap, ◌∙◌, ◌%◌, ◌<◌, subst, sym}
 use Rattle.std.specs.Int.{w64, to_le_bytes}
 use Rattle.uw_words.specs.Plans.{region}
 use Rattle.uw_area.proofs.ByteWords.{held_byte}

@@ -1,8 +1,7 @@
-use Rattle.std.proofs.Common.{◌≡◌, ◌+◌, ◌-◌, ◌*◌, ◌/◌, ◌%◌, ◌≤◌, ◌<◌, ◌++◌, ℕ, List, length, take, drop, sym, ap, ◌∙◌, subst, arith}
+use Rattle.std.proofs.Common.{◌≡◌, ◌+◌, ◌-◌, ◌/◌, ◌%◌, ◌<◌, ◌++◌, ℕ, List, take, drop, ap, ◌∙◌, arith}
 use Rattle.std.specs.Int.{w64, to_le_bytes, div_ceil}
 use Rattle.std.proofs.lemmas.List.{take_rest}
 use Rattle.uw_words.specs.Plans.{region}
-use Rattle.uw_words.specs.Texts.{word_bytes}
 use Rattle.uw_area.proofs.ByteWords.{read_next, slice_read}
 use Rattle.uw_area.proofs.bytes.bytes_at.Goals as goal
 use Rattle.uw_area.proofs.bytes.bytes_at.Goals.{then-k-eq0, else-k-eq0}

@@ -1,4 +1,4 @@
-use Rattle.std.proofs.Common.{◌≡◌, ◌+◌, ◌-◌, ◌*◌, ◌/◌, ◌<◌, ◌≤◌, ℕ, length, sym, subst, arith}
+use Rattle.std.proofs.Common.{◌≡◌, ◌+◌, ◌*◌, ◌/◌, ◌<◌, ℕ, length, subst, arith}
 use Rattle.uw_words.specs.Parts.{GrewAt}
 use Rattle.uw_words.specs.Numbers.{places_from}
 use Rattle.uw_area.specs.AreaKind.{touched_words}

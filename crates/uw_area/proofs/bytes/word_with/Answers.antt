@@ -1,8 +1,7 @@
-use Rattle.std.proofs.Common.{◌≡◌, ◌+◌, ◌-◌, ◌*◌, ◌<◌, ◌≤◌, ℕ, List, [], ◌∷◌, get_or, drop, ap, ◌∙◌, length, arith, sym}
+use Rattle.std.proofs.Common.{◌≡◌, ◌+◌, ◌-◌, ◌*◌, ◌<◌, ◌≤◌, ℕ, List, get_or, ap, ◌∙◌, length, arith}
 use Rattle.std.specs.Int.{w64, from_le_bytes, to_le_bytes}
 use Rattle.std.specs.List.{splice}
 use Rattle.std.proofs.lemmas.List.{take_rest}
-use Rattle.uw_words.specs.Texts.{text_word}
 use Rattle.uw_area.proofs.ByteWords.{word_byte, word_inside, word_of_bytes}
 use Rattle.uw_area.proofs.bytes.word_with.Goals as goal
 
