@@ -1,7 +1,7 @@
 -- An operation of one area of a desk.
-use Rattle.std.proofs.Common.{◌≡◌, ℕ, Bool, true, false, List, [], ◌∷◌, Option, None, Some, IfSome, Result, Ok, Err, refl, sym, ap, ap₂, ◌∙◌, ◌*◌, ◌<◌, length, arith, subst, set, is_some, cond, add-zero, eq-eqb}
+use Rattle.std.proofs.Common.{◌≡◌, ℕ, Bool, true, false, List, [], ◌∷◌, Option, Some, Result, refl, sym, ap, ap₂, ◌∙◌, length, arith, subst, set, add-zero, eq-eqb}
 use Rattle.std.specs.Prelude.{if◌then◌else◌}
-use Rattle.std.specs.List.{AllByRecursion, AllZip, list_all, slice_get}
+use Rattle.std.specs.List.{list_all, slice_get}
 use Rattle.uw_outside.specs.Lives.{IsSpent}
 use Rattle.uw_model.specs.declared.areas.AreaOp.{AreaOp}
 use Rattle.uw_model.specs.declared.areas.AreaAnswer.{AreaAnswer}
@@ -9,9 +9,8 @@ use Rattle.uw_model.specs.declared.asks.Ask.TheVariants as asks
 use Rattle.uw_model.specs.declared.asks.AskAnswer.{AskAnswer}
 use Rattle.uw_model.specs.declared.asks.AskAnswer.TheVariants as ask_answers
 use Rattle.uw_model.specs.AreaOps.{AreaState, area_answer, area_next}
-use Rattle.uw_model.specs.Areas.{area_answer_in, areas_after}
-use Rattle.uw_model.specs.Asks.{Asking, Calls, counted_answer, has_died}
-use Rattle.uw_model.specs.Lists.{LeadsLists, Lists, answer_of, lists_after}
+use Rattle.uw_model.specs.Asks.{Asking, Calls, has_died}
+use Rattle.uw_model.specs.Lists.{Lists, answer_of, lists_after}
 use Rattle.uw_words.specs.Plans.{region}
 use Rattle.uw_words.proofs.Copies.{told_apart}
 use Rattle.uw_intent.specs.declared.recoverable.CallFault.{CallFault}
@@ -24,7 +23,7 @@ use Rattle.uw_cache.specs.Vaults.{VaultView, vault_frame}
 use Rattle.uw_area.specs.AreaKind.{area_kind}
 use Rattle.uw_area.specs.AreaViews.{AreaView}
 use Rattle.uw_area.specs.AreaWords.{AgreesWithArea, area_frame}
-use Rattle.uw_shared.specs.AskRuns.{LeadsOn, LeadsRegions}
+use Rattle.uw_shared.specs.AskRuns.{LeadsRegions}
 use Rattle.uw_shared.specs.Beginnings.{desk_result}
 use Rattle.uw_shared.specs.Parts.{Stands, area_reading}
 use Rattle.uw_shared.specs.Regions.{AreRegions, Regions, RegionsStandFor, is_closed, is_settled}
@@ -36,7 +35,7 @@ pub area_once : (size : ℕ) (words : List ℕ) (area other : AreaState) → Agr
 area_once size words area other one two =
     let many : length area.bytes ≡ length other.bytes = one.holds.many ∙ sym two.holds.many in
     let bytes : area.bytes ≡ other.bytes = told_apart area.bytes other.bytes one.holds.small two.holds.small many
-      (λ k short. sym (one.holds.bytes k short) ∙ two.holds.bytes k (omega (arith, short, many))) in
+    (λ k short. sym (one.holds.bytes k short) ∙ two.holds.bytes k (omega (arith, short, many))) in
     ap₂ (λ (b : List ℕ) (n : ℕ). let state : AreaState = record { bytes = b; updates = n } in state) bytes (sym one.holds.updates ∙ two.holds.updates)
 
 -- an area stands for the bytes for which its words stand, under the size that it had
@@ -72,7 +71,7 @@ module _ (before : Regions) (area moment : ℕ) (op : AreaOp) (held after : Area
       stand_then true behind = record {
         caches = stand.caches;
         areas = rw there (zip_set (Stands area_reading) before.areas lists.areas area after (area_next plain op) stand.areas
-          (stands_still held after (area_next plain op) kept behind));
+            (stands_still held after (area_next plain op) kept behind));
       }
       stand_then false behind = record {
         caches = stand.caches;
@@ -88,15 +87,23 @@ module _ (before : Regions) (area moment : ℕ) (op : AreaOp) (held after : Area
           after = if joins end then lists_after lists moment (asks.Area area op) else lists;
           leads = (
             counted_is (λ (a : AreaAnswer). ask_answers.Area a) untold (answer_of lists moment (asks.Area area op)) end
-              (λ a is. given_is lists stand found.0 found.1 found.2 a is turn.answer) (untold_is lists stand found.0 found.1 found.2),
-            ap (λ (b : Bool). if b then lists_after lists moment (asks.Area area op) else lists) (sym (counts_so (λ (a : AreaAnswer). ask_answers.Area a) untold end))
+                (λ a is. given_is lists stand found.0 found.1 found.2 a is turn.answer) (untold_is lists stand found.0 found.1 found.2),
+            ap (λ (b : Bool). if b then lists_after lists moment (asks.Area area op) else lists) (sym (counts_so (λ (a : AreaAnswer). ask_answers.Area a) untold end)),
           );
           stand = stand_then lists stand found.0 found.1 found.2 (joins end) turn.stands;
-          runs = (record before { areas = set before.areas area after }, led.writes, 0, sym (add-zero led.writes),
-            (set before.areas area after, refl,
+          runs = (
+            record before { areas = set before.areas area after },
+            led.writes,
+            0,
+            sym (add-zero led.writes),
+            (
+              set before.areas area after,
+              refl,
               turn_at area_reading (λ (a : AreaAnswer). ask_answers.Area a) before.areas area held after lists.areas found.0 (record { who = 0; moment = 0; call = op }) end
-              (asked_as (λ (a : AreaAnswer). ask_answers.Area a) untold end) told left led.writes here found.1 kept (ends_so (λ (a : AreaAnswer). ask_answers.Area a) untold end) turn),
-            (refl, refl));
+                  (asked_as (λ (a : AreaAnswer). ask_answers.Area a) untold end) told left led.writes here found.1 kept (ends_so (λ (a : AreaAnswer). ask_answers.Area a) untold end) turn,
+            ),
+            (refl, refl),
+          );
         }
 
 module _ (before : Regions) (is : AreRegions before) (area moment : ℕ) (op : AreaOp) (held after : AreaView) (told left : Option (List ℕ)) (result : Result AreaAnswer CallFault)
@@ -113,14 +120,14 @@ module _ (before : Regions) (is : AreRegions before) (area moment : ℕ) (op : A
       call_asked (λ (a : AreaAnswer). ask_answers.Area a) (LeadsRegions before (record before { areas = set before.areas area after })) told left moment (asks.Area area op)
       (ask_answers.Area (area_answer found.0 op)) led.writes result led.spent refused
       (area_leads before area moment op held after told left (end_of result) here kept led found.0
-        (λ other stands. once found.0 other found.2.stands stands))
+      (λ other stands. once found.0 other found.2.stands stands))
 
   -- the regions stand for some lists still
   pub area_still : AreRegions (record before { areas = set before.areas area after })
   area_still =
       let found = zip_at (Stands area_reading) before.areas is.lists.areas area held is.stand.areas here in
       let on = area_leads before area moment op held after told left (end_of result) here kept led found.0
-        (λ other stands. once found.0 other found.2.stands stands) is.lists is.stand in
+      (λ other stands. once found.0 other found.2.stands stands) is.lists is.stand in
       record {
         limits = is.limits;
         lists = on.after;

@@ -1,8 +1,8 @@
 -- How the regions of a desk begin: they stand for empty caches and blank areas, and no gate is open.
-use Rattle.std.proofs.Common.{◌≡◌, ℕ, Bool, true, List, [], ◌∷◌, refl, sym, ◌∙◌, subst, eq-eqb, map}
+use Rattle.std.proofs.Common.{◌≡◌, ℕ, true, List, [], ◌∷◌, refl, sym, ◌∙◌, subst, eq-eqb}
 use Rattle.std.specs.List.{AllByRecursion, AllZip, list_all}
 use Rattle.uw_model.specs.declared.conf.CacheConf.{CacheConf}
-use Rattle.uw_model.specs.AreaOps.{AreaState, IsAreaSize, blank_area}
+use Rattle.uw_model.specs.AreaOps.{blank_area}
 use Rattle.uw_model.specs.Areas.{blank_areas}
 use Rattle.uw_model.specs.Caches.{empty_caches}
 use Rattle.uw_model.specs.Entries.{IsCacheConf}
@@ -18,7 +18,7 @@ use Rattle.uw_area.specs.AreaWords.{area_frame}
 use Rattle.uw_area.proofs.Standing.{area_local}
 use Rattle.uw_shared.specs.Beginnings.{BeginsAsArea, BeginsAsCache}
 use Rattle.uw_shared.specs.Parts.{Stands, area_reading, cache_reading}
-use Rattle.uw_shared.specs.Regions.{AreRegions, Regions, is_closed, is_settled}
+use Rattle.uw_shared.specs.Regions.{is_closed}
 use Rattle.uw_shared.proofs.Places.{join_true}
 
 -- ---- caches

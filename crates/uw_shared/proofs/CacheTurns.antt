@@ -1,7 +1,7 @@
 -- A call of one vault of a desk.
-use Rattle.std.proofs.Common.{◌≡◌, ℕ, Bool, true, false, List, [], ◌∷◌, Option, None, Some, IfSome, Result, Ok, Err, refl, sym, ap, ◌∙◌, subst, set, is_some, cond, add-zero, eq-eqb}
+use Rattle.std.proofs.Common.{◌≡◌, ℕ, Bool, true, false, List, [], ◌∷◌, Option, Some, Result, refl, sym, ap, ◌∙◌, subst, set, add-zero, eq-eqb}
 use Rattle.std.specs.Prelude.{if◌then◌else◌}
-use Rattle.std.specs.List.{AllByRecursion, AllZip, list_all, slice_get}
+use Rattle.std.specs.List.{list_all, slice_get}
 use Rattle.uw_model.specs.declared.conf.CacheConf.{CacheConf}
 use Rattle.uw_model.specs.declared.entries.Entry.{Entry}
 use Rattle.uw_model.specs.declared.calls.Call.{Call}
@@ -9,11 +9,10 @@ use Rattle.uw_model.specs.declared.calls.Answer.{Answer}
 use Rattle.uw_model.specs.declared.asks.Ask.TheVariants as asks
 use Rattle.uw_model.specs.declared.asks.AskAnswer.{AskAnswer}
 use Rattle.uw_model.specs.declared.asks.AskAnswer.TheVariants as ask_answers
-use Rattle.uw_model.specs.Asks.{Asking, Calls, counted_answer, has_died}
-use Rattle.uw_model.specs.Caches.{answer_in, caches_after}
+use Rattle.uw_model.specs.Asks.{Asking, Calls, has_died}
 use Rattle.uw_model.specs.Calls.{answer, next_state}
 use Rattle.uw_model.specs.Entries.{IsCacheConf}
-use Rattle.uw_model.specs.Lists.{LeadsLists, Lists, answer_of, lists_after}
+use Rattle.uw_model.specs.Lists.{Lists, answer_of, lists_after}
 use Rattle.uw_model.specs.ListState.{ListState}
 use Rattle.uw_outside.specs.Lives.{IsSpent}
 use Rattle.uw_words.specs.Plans.{region}
@@ -29,7 +28,7 @@ use Rattle.uw_plan.proofs.Agreeing.{list_once}
 use Rattle.uw_cache.specs.Vaults.{VaultView, vault_frame}
 use Rattle.uw_area.specs.AreaViews.{AreaView}
 use Rattle.uw_area.specs.AreaWords.{area_frame}
-use Rattle.uw_shared.specs.AskRuns.{LeadsOn, LeadsRegions}
+use Rattle.uw_shared.specs.AskRuns.{LeadsRegions}
 use Rattle.uw_shared.specs.Beginnings.{desk_result}
 use Rattle.uw_shared.specs.Parts.{Stands, cache_reading}
 use Rattle.uw_shared.specs.Regions.{AreRegions, Regions, RegionsStandFor, is_closed, is_settled}
@@ -74,7 +73,7 @@ module _ (before : Regions) (cache moment : ℕ) (call : Call) (vault after : Va
           → RegionsStandFor (record before { caches = set before.caches cache after }) (if joined then lists_after lists moment (asks.Cache cache call) else lists)
       stand_then true behind = record {
         caches = rw there (zip_set (Stands cache_reading) before.caches lists.caches cache after (record { conf = plain.conf; list = next_state plain.conf plain.list moment call }) stand.caches
-          (stands_still vault after plain.conf (next_state plain.conf plain.list moment call) kept stands.conf
+            (stands_still vault after plain.conf (next_state plain.conf plain.list moment call) kept stands.conf
             (subst (λ (c : CacheConf). StandsFor (cache_kind vault.conf) after.words (next_state c plain.list moment call)) stands.conf behind)));
         areas = stand.areas;
       }
@@ -92,15 +91,23 @@ module _ (before : Regions) (cache moment : ℕ) (call : Call) (vault after : Va
           after = if joins end then lists_after lists moment (asks.Cache cache call) else lists;
           leads = (
             counted_is (λ (a : Answer). ask_answers.Cache a) untold (answer_of lists moment (asks.Cache cache call)) end
-              (λ a is. given_is lists stand found.0 found.1 found.2 a is turn.answer) (untold_is lists stand found.0 found.1 found.2),
-            ap (λ (b : Bool). if b then lists_after lists moment (asks.Cache cache call) else lists) (sym (counts_so (λ (a : Answer). ask_answers.Cache a) untold end))
+                (λ a is. given_is lists stand found.0 found.1 found.2 a is turn.answer) (untold_is lists stand found.0 found.1 found.2),
+            ap (λ (b : Bool). if b then lists_after lists moment (asks.Cache cache call) else lists) (sym (counts_so (λ (a : Answer). ask_answers.Cache a) untold end)),
           );
           stand = stand_then lists stand found.0 found.1 found.2 (joins end) turn.stands;
-          runs = (record before { caches = set before.caches cache after }, led.writes, 0, sym (add-zero led.writes),
-            (set before.caches cache after, refl,
+          runs = (
+            record before { caches = set before.caches cache after },
+            led.writes,
+            0,
+            sym (add-zero led.writes),
+            (
+              set before.caches cache after,
+              refl,
               turn_at cache_reading (λ (a : Answer). ask_answers.Cache a) before.caches cache vault after lists.caches found.0 (record { who = 0; moment = moment; call = call }) end
-              (asked_as (λ (a : Answer). ask_answers.Cache a) untold end) told left led.writes here found.1 kept (ends_so (λ (a : Answer). ask_answers.Cache a) untold end) turn),
-            (refl, refl));
+                  (asked_as (λ (a : Answer). ask_answers.Cache a) untold end) told left led.writes here found.1 kept (ends_so (λ (a : Answer). ask_answers.Cache a) untold end) turn,
+            ),
+            (refl, refl),
+          );
         }
 
 module _ (before : Regions) (is : AreRegions before) (cache moment : ℕ) (call : Call) (vault after : VaultView) (told left : Option (List ℕ)) (result : Result Answer CallFault)
@@ -117,14 +124,14 @@ module _ (before : Regions) (is : AreRegions before) (cache moment : ℕ) (call 
       call_asked (λ (a : Answer). ask_answers.Cache a) (LeadsRegions before (record before { caches = set before.caches cache after })) told left moment (asks.Cache cache call)
       (ask_answers.Cache (answer vault.conf found.0.list moment call)) led.writes result led.spent refused
       (cache_leads before cache moment call vault after told left (end_of result) here kept led found.0.list
-        (λ other stands. stands_once vault.conf limit vault.words found.0.list other found.2.stands stands))
+      (λ other stands. stands_once vault.conf limit vault.words found.0.list other found.2.stands stands))
 
   -- the regions stand for some lists still
   pub cache_still : AreRegions (record before { caches = set before.caches cache after })
   cache_still =
       let found = zip_at (Stands cache_reading) before.caches is.lists.caches cache vault is.stand.caches here in
       let on = cache_leads before cache moment call vault after told left (end_of result) here kept led found.0.list
-        (λ other stands. stands_once vault.conf limit vault.words found.0.list other found.2.stands stands) is.lists is.stand in
+      (λ other stands. stands_once vault.conf limit vault.words found.0.list other found.2.stands stands) is.lists is.stand in
       record {
         limits = each_set (λ (v : VaultView). IsCacheConf v.conf) before.caches cache after is.limits (subst IsCacheConf (sym kept) limit);
         lists = on.after;

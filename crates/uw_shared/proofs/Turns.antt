@@ -1,22 +1,20 @@
 -- A call of one region of a desk, as an ask of the desk.
-use Rattle.std.proofs.Common.{◌≡◌, ℕ, Bool, true, false, List, [], ◌∷◌, Option, None, Some, IfSome, Result, Ok, Err, refl, set, is_some, cond}
+use Rattle.std.proofs.Common.{◌≡◌, ℕ, true, false, List, [], ◌∷◌, Option, Some, IfSome, Result, Ok, Err, refl, set, is_some}
 use Rattle.std.specs.List.{slice_get}
 use Rattle.uw_outside.specs.Lives.{IsSpent, Spends}
 use Rattle.uw_model.specs.declared.asks.Ask.{Ask}
 use Rattle.uw_model.specs.declared.asks.AskAnswer.{AskAnswer}
 use Rattle.uw_model.specs.Asks.{AskEnd, Asking, Calls, counted_answer, has_died}
 use Rattle.uw_model.specs.Asks as ends
-use Rattle.uw_model.specs.Lists.{LeadsLists, Lists, answer_of, lists_after}
 use Rattle.uw_intent.specs.declared.recoverable.CallFault.{CallFault}
 use Rattle.uw_intent.specs.declared.recoverable.CallFault.TheVariants as faults
-use Rattle.uw_intent.specs.Standing.{Kind, StandsFor}
 use Rattle.uw_intent.specs.World.{Called}
 use Rattle.uw_intent.specs.CallTurns.{CallEnd}
 use Rattle.uw_intent.specs.CallTurns as calls
-use Rattle.uw_intent.specs.OneTurn.{IsOneTurn, LedByTurn, end_of, has_call_died, joins}
+use Rattle.uw_intent.specs.OneTurn.{IsOneTurn, end_of, has_call_died, joins}
 use Rattle.uw_shared.specs.AskRuns.{EndsAsCall, TurnAt}
 use Rattle.uw_shared.specs.Beginnings.{desk_result}
-use Rattle.uw_shared.specs.Parts.{Reading, Stands}
+use Rattle.uw_shared.specs.Parts.{Reading}
 
 -- how an ask ends whose call ended so; one that died and counts would have been answered so
 abbrev pub asked_as : {A : Type 0} → (A → AskAnswer) → AskAnswer → CallEnd A → AskEnd

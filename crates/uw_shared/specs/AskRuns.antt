@@ -1,5 +1,5 @@
 -- What asks do to the regions of a desk: each takes one turn of one region (own rule).
-use Rattle.std.specs.Prelude.{◌≡◌, ℕ, ◌+◌, Bool, true, false, List, [], ◌∷◌, ◌++◌, refl, slice_get, slice_set, Option, Some, is_some, if◌then◌else◌}
+use Rattle.std.specs.Prelude.{◌≡◌, ℕ, ◌+◌, true, false, List, [], ◌∷◌, ◌++◌, refl, slice_get, slice_set, Option, Some, is_some, if◌then◌else◌}
 use Rattle.std.proofs.Common.{add_assoc, ap, subst, sym, zero-add, ◌∙◌}
 use Rattle.uw_model.specs.declared.asks.Ask.{Ask}
 use Rattle.uw_model.specs.declared.asks.AskAnswer.{AskAnswer}
@@ -95,9 +95,14 @@ AsksRun-append lists mid a b c [] late first more led ran on =
     let from_regions : AsksRun lists a late more c = let Running : Regions → Type 0 = λ from. AsksRun lists from late more c in subst Running ran.0 from_lists in
     let Running : ℕ → Type 0 = λ writes. AsksRun lists a late writes c in
     subst Running (sym (ap (λ (n : ℕ). n + more) ran.1 ∙ zero-add more)) from_regions
-AsksRun-append lists mid a b c (x ∷ early) late first more led ran on =
-    (ran.0, ran.1, ran.2 + more, ap (λ (n : ℕ). n + more) ran.3 ∙ add_assoc ran.1 ran.2 more, ran.4,
-      AsksRun-append (lists_behind lists x) mid ran.0 b c early late ran.2 more led.1 ran.5 on)
+AsksRun-append lists mid a b c (x ∷ early) late first more led ran on = (
+  ran.0,
+  ran.1,
+  ran.2 + more,
+  ap (λ (n : ℕ). n + more) ran.3 ∙ add_assoc ran.1 ran.2 more,
+  ran.4,
+  AsksRun-append (lists_behind lists x) mid ran.0 b c early late ran.2 more led.1 ran.5 on,
+)
 
 -- what led first, and then what led on from there
 pub LeadsRegions-append : (a b c : Regions) (early late : List Asking) (first more : ℕ)

@@ -1,5 +1,5 @@
 -- How the regions of a desk begin, and what a desk answers.
-use Rattle.std.specs.Prelude.{◌≡◌, ℕ, List, [], Result, Ok, Err}
+use Rattle.std.specs.Prelude.{◌≡◌, ℕ, [], Result, Ok, Err}
 use Rattle.uw_model.specs.declared.conf.CacheConf.{CacheConf}
 use Rattle.uw_model.specs.declared.desk.DeskFault.{DeskFault}
 use Rattle.uw_model.specs.declared.desk.DeskFault.TheVariants as desk_faults

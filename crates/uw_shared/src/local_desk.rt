@@ -18,7 +18,9 @@ use uw_area::Area;
 use uw_base::{Memory, NumberList};
 use uw_cache::Vault;
 use uw_intent::{CallFault, recovered_call};
-use uw_model::{Answer, AreaAnswer, AreaOp, CacheConf, CacheConfList, Call, Desk, DeskFault, OwnDesk};
+use uw_model::{
+    Answer, AreaAnswer, AreaOp, CacheConf, CacheConfList, Call, Desk, DeskFault, OwnDesk,
+};
 use uw_outside::Life;
 
 /// The caches and the areas of a site as regions of one thread. Before the next call of a region it makes the writes that
