@@ -79,6 +79,7 @@ impl LocalDesk {
         requires sizes { AllByRecursion IsAreaSize areas.now }
         ensures stand { IfOk result (λ desk. RegionsStandFor desk (empty_lists caches.now areas.now)) }
         ensures settled { IfOk result (λ desk. is_settled desk ≡ true) }
+        ensures parts { IfOk result (λ desk. parts_of_regions desk ≡ record { caches = length caches.now; areas = length areas.now }) }
     {
         let caches = empty_vaults(alloc, caches.as_slice())?;
         let areas = blank_regions(alloc, areas.as_slice())?;
