@@ -1,0 +1,5 @@
+//! Tests of the desk over regions.
+#![tactic(auto)]
+
+#[cfg(test)]
+mod deaths;

@@ -1,0 +1,5 @@
+pub mod Places
+pub mod Turns
+pub mod CacheTurns
+pub mod AreaTurns
+pub mod Beginnings
