@@ -34,10 +34,6 @@ vault_frame vault = frame_of (shape_of vault.conf)
 abbrev pub vault_writes : VaultView → List WordWrite
 vault_writes vault = commit_writes (vault_frame vault) vault.plan
 
--- the words stand for a list of entries
-abbrev pub VaultStandsFor : VaultView → List Entry → Type 0
-VaultStandsFor vault list = StandsFor (cache_kind vault.conf) vault.words list
-
 -- what a vault is at any time: the configuration is within its limits, the words are as many as it says and stand for some
 -- list, one overlay has room for the plan of any call, and the other plans nothing
 pub record IsVault (conf : CacheConf) (words : List ℕ) (over blank : Plan) : Type 0 where
