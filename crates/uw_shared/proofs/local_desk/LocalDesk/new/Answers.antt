@@ -44,5 +44,5 @@ returns-clause-settled c =
 pub returns-clause-parts : goal.returns-clause-parts
 returns-clause-parts c = rw (← c.as_slice.ensures, ← c.as_slice-2.ensures)
     (ap₂ (λ (caches areas : ℕ). let parts : DeskParts = record { caches = caches; areas = areas } in parts)
-      (AllZip-long BeginsAsCache c.as_slice.result.now c.in_ok-caches.caches.items c.in_ok-caches.ensures)
-      (AllZip-long BeginsAsArea c.as_slice-2.result.now c.in_ok-areas.areas.items c.in_ok-areas.ensures))
+    (AllZip-long BeginsAsCache c.as_slice.result.now c.in_ok-caches.caches.items c.in_ok-caches.ensures)
+    (AllZip-long BeginsAsArea c.as_slice-2.result.now c.in_ok-areas.areas.items c.in_ok-areas.ensures))
