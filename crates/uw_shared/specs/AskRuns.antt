@@ -1,6 +1,8 @@
 -- What asks do to the regions of a desk: each takes one turn of one region (own rule).
 use Rattle.std.specs.Prelude.{◌≡◌, ℕ, ◌+◌, true, false, List, [], ◌∷◌, ◌++◌, refl, slice_get, slice_set, Option, Some, is_some, if◌then◌else◌}
 use Rattle.std.proofs.Common.{add_assoc, ap, subst, sym, zero-add, ◌∙◌}
+use Rattle.uw_model.specs.declared.areas.AreaAnswer.{AreaAnswer}
+use Rattle.uw_model.specs.declared.calls.Answer.{Answer}
 use Rattle.uw_model.specs.declared.asks.Ask.{Ask}
 use Rattle.uw_model.specs.declared.asks.AskAnswer.{AskAnswer}
 use Rattle.uw_model.specs.declared.asks.Ask.TheVariants as asks
@@ -24,6 +26,13 @@ EndsAsCall kind end (calls.given answer) = end ≡ ends.answered (kind answer)
 EndsAsCall kind end (calls.died true) = (answer : AskAnswer) × (end ≡ ends.died_whole answer)
 EndsAsCall kind end (calls.died false) = end ≡ ends.died_absent
 EndsAsCall kind end calls.no_memory = end ≡ ends.no_memory
+
+-- the answers of a cache and of an area, as those of asks
+abbrev pub of_cache : Answer → AskAnswer
+of_cache answer = ask_answers.Cache answer
+
+abbrev pub of_area : AreaAnswer → AskAnswer
+of_area answer = ask_answers.Area answer
 
 -- a call on words that stand for a state took one turn, with just so many writes, as some life lets them through
 pub record TurnRuns {S C A : Type 0} (k : Kind S C A) (s : S) (made : Called C) (end : CallEnd A) (before : List ℕ) (writes : ℕ) (now : List ℕ) : Type 0 where
@@ -51,10 +60,10 @@ pub record TurnAt {V P F S C A : Type 0} (read : Reading V P F S C A) (answer : 
 abbrev pub AskRunsBy : Lists → Regions → ℕ → Ask → AskEnd → ℕ → Regions → Type 0
 AskRunsBy lists before moment (asks.Cache cache call) end writes now =
     (caches : List VaultView) × (now ≡ record before { caches = caches })
-    × TurnAt cache_reading (λ answer. ask_answers.Cache answer) lists.caches before.caches cache (record { who = 0; moment = moment; call = call }) end writes caches
+    × TurnAt cache_reading of_cache lists.caches before.caches cache (record { who = 0; moment = moment; call = call }) end writes caches
 AskRunsBy lists before moment (asks.Area area op) end writes now =
     (areas : List AreaView) × (now ≡ record before { areas = areas })
-    × TurnAt area_reading (λ answer. ask_answers.Area answer) lists.areas before.areas area (record { who = 0; moment = 0; call = op }) end writes areas
+    × TurnAt area_reading of_area lists.areas before.areas area (record { who = 0; moment = 0; call = op }) end writes areas
 AskRunsBy lists before moment (asks.Spool vars body) end writes now = ⊥
 
 -- the same of an asking
