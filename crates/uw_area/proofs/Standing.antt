@@ -9,6 +9,7 @@ use Rattle.uw_model.specs.AreaOps.{AreaState, area_answer, area_next, blank_area
 use Rattle.uw_words.specs.Plans.{Plan, region}
 use Rattle.uw_words.specs.Parts.{seen}
 use Rattle.uw_words.specs.Texts.{text_word}
+use Rattle.uw_words.proofs.Copies.{told_apart}
 use Rattle.uw_intent.specs.declared.frame.Frame.{Frame}
 use Rattle.uw_intent.specs.declared.frame.WordWrite.{WordWrite}
 use Rattle.uw_intent.specs.Stores.{words_after, AllMade, SomeMade}
@@ -91,6 +92,22 @@ area_local size = record {
   where
     early : (at : ℕ) → at < (area_frame size).start → at ≢ 10 → at ≢ 11 → IsBeyond (area_frame size) at
     early at before gate used = record { outside = inl before; gate = gate; used = used }
+
+-- words agree with one area at most
+pub one_area : (size : ℕ) (words : List ℕ) (area other : AreaState) → AgreesWithArea size words area → AgreesWithArea size words other → area ≡ other
+one_area size words area other agrees also =
+    ap (λ (bytes : List ℕ). record { bytes = bytes; updates = area.updates }) bytes_same ∙ ap (λ (n : ℕ). record { bytes = other.bytes; updates = n }) updates_same
+  where
+    updates_same : area.updates ≡ other.updates
+    updates_same = sym agrees.holds.updates ∙ also.holds.updates
+
+    long : length area.bytes ≡ length other.bytes
+    long = agrees.holds.many ∙ sym also.holds.many
+
+    bytes_same : area.bytes ≡ other.bytes
+    bytes_same =
+        told_apart area.bytes other.bytes agrees.holds.small also.holds.small long
+        (λ k short. sym (agrees.holds.bytes k short) ∙ also.holds.bytes k (omega (arith, short, long)))
 
 -- words that stand for an area have room for the record
 pub standing_frame : (size : ℕ) (words : List ℕ) (area : AreaState) → StandsFor (area_kind size) words area → length words ≡ area_words size

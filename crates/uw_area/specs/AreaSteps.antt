@@ -24,7 +24,8 @@ pub record IsUnplanned (size : ℕ) (words : List ℕ) (plan : Plan) : Type 0 wh
   pub empty : plan.writes ≡ []
   pub room : plan.room ≡ area_plan_room size
 
--- what is planned for an operation: it fits the record, names each place once, and leaves the gate; through it the area after the operation is read; and it is not too much
+-- what is planned for an operation: it fits the record, names each place once, and leaves the gate; through it the area after the
+-- operation is read; and it is not too much
 pub record PlansOp (size : ℕ) (words : List ℕ) (op : AreaOp) (plan : Plan) : Type 0 where
   pub fits : FitsRecord (area_frame size) (area_words size) plan.writes
   pub once : HasDistinctPlaces plan.writes

@@ -60,8 +60,9 @@ fn frame_of(size: u64) -> Frame
 }
 
 impl Area {
-    /// An area of so many zero bytes, with no update counted. Takes all memory that its writes need: that of its words,
-    /// and of an overlay that can name the words of one write.
+    /// An area of so many zero bytes, with no update counted. Takes all memory that its writes need: eight bytes for each
+    /// word of the region, which are 16, one for each eight bytes of the area, and three for each word that an operation
+    /// may plan; and an overlay that can name as many words as an operation may plan.
     pub fn new(alloc: Global, size: u64) -> Result<Area, Memory>
         requires { IsAreaSize size }
         ensures size { IfOk result (λ area. area.size ≡ size) }
@@ -82,8 +83,9 @@ impl Area {
         is_pending(&self.held.ram, &frame_of(self.held.size))
     }
 
-    /// Makes an operation, which costs its slice and not the area: all of its writes, or as many as the life lets through.
-    /// Only a read takes memory.
+    /// Makes an operation: all of its writes, or as many as the life lets through. It costs the words of its slice, and not
+    /// those of the area. A slice that ends behind the area is refused, with no write. Only a read takes memory: that of the
+    /// bytes that it gives.
     pub fn call<L: Life>(
         &mut self,
         alloc: Global,

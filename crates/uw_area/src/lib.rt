@@ -5,6 +5,7 @@
 mod area;
 mod blank;
 mod bytes;
+pub mod laws;
 mod ops;
 mod widths;
 

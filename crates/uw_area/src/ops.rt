@@ -46,7 +46,7 @@ fn read(alloc: Global, size: u64, ram: &Ram, at: u64, len: u64) -> Result<AreaAn
 }
 
 // Plans the words of bytes that lie within the area, and of the count of updates.
-fn put(size: u64, ram: &Ram, over: &mut Overlay, at: u64, put: &[u8])
+fn put_within(size: u64, ram: &Ram, over: &mut Overlay, at: u64, put: &[u8])
     requires unplanned { IsUnplanned size ram.now over.old }
     requires within { at + length put.now ≤ size }
     requires few { length put.now ≤ most_written }
@@ -56,6 +56,7 @@ fn put(size: u64, ram: &Ram, over: &mut Overlay, at: u64, put: &[u8])
     put_bytes(size, ram, over, at, put);
     let updates = over.load(ram, UPDATES);
     over.put(UPDATES, updates.wrapping_add(1));
+    // it names each place once
     let _ = over.count();
 }
 
@@ -67,28 +68,28 @@ fn put_number(size: u64, ram: &Ram, over: &mut Overlay, at: u64, width: Width, n
     ensures plan { PlansOp size ram.now (ops.Write at (bytes_in_width width number)) over.new }
 {
     match width {
-        Width::W8 => put(
+        Width::W8 => put_within(
             size,
             ram,
             over,
             at,
             &((number % (1 << 8)) as u8).to_le_bytes(),
         ),
-        Width::W16 => put(
+        Width::W16 => put_within(
             size,
             ram,
             over,
             at,
             &((number % (1 << 16)) as u16).to_le_bytes(),
         ),
-        Width::W32 => put(
+        Width::W32 => put_within(
             size,
             ram,
             over,
             at,
             &((number % (1 << 32)) as u32).to_le_bytes(),
         ),
-        Width::W64 => put(size, ram, over, at, &number.to_le_bytes()),
+        Width::W64 => put_within(size, ram, over, at, &number.to_le_bytes()),
     }
 }
 
@@ -104,7 +105,7 @@ fn write(size: u64, ram: &Ram, over: &mut Overlay, at: u64, bytes: &[u8]) -> Are
     if !is_inside(size, at, len) {
         return out_of_area(size, at, len);
     }
-    put(size, ram, over, at, bytes);
+    put_within(size, ram, over, at, bytes);
     AreaAnswer::Done
 }
 

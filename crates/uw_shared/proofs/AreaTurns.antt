@@ -1,5 +1,6 @@
 -- An operation of one area of a desk.
-use Rattle.std.proofs.Common.{◌≡◌, ℕ, Bool, true, false, List, [], ◌∷◌, Option, Some, Result, refl, sym, ap, ap₂, ◌∙◌, length, arith, subst, set, add-zero, eq-eqb}
+use Rattle.std.proofs.Common.{◌≡◌, ℕ, Bool, true, false, List, [], ◌∷◌, Option, Some, Result, refl, sym, ap}
+use Rattle.std.proofs.Common.{ap₂, ◌∙◌, length, arith, subst, set, add-zero, eq-eqb}
 use Rattle.std.specs.Prelude.{if◌then◌else◌}
 use Rattle.std.specs.List.{AllZip, list_all, slice_get}
 use Rattle.uw_outside.specs.Lives.{IsSpent}
@@ -35,7 +36,8 @@ area_once size words area other one two =
     ap₂ (λ (b : List ℕ) (n : ℕ). let state : AreaState = record { bytes = b; updates = n } in state) bytes (sym one.holds.updates ∙ two.holds.updates)
 
 -- an area stands for the bytes for which its words stand, under the size that it had
-stands_stepped : (held after : AreaView) (plain : AreaState) → after.size ≡ held.size → StandsFor (area_kind held.size) after.words plain → Stands area_reading after plain
+stands_stepped : (held after : AreaView) (plain : AreaState) → after.size ≡ held.size → StandsFor (area_kind held.size) after.words plain
+    → Stands area_reading after plain
 stands_stepped held after plain kept stands =
     record { conf = kept ∙ sym stands.agrees.holds.many; stands = subst (λ (n : ℕ). StandsFor (area_kind n) after.words plain) (sym kept) stands }
 
@@ -75,7 +77,8 @@ module _ (before : Regions) (is : AreRegions before) (area moment : ℕ) (op : A
       (record { moment = moment; ask = asks.Area area op; end = asked_as of_area untold (end_of result) } ∷ []) led.writes
   leads lists stand =
       let found = led_at area_reading of_area before.areas area held after (record { who = 0; moment = 0; call = op }) told left (end_of result) here kept led
-      (λ (plain : AreaState). area_next plain op) untold (λ plain stands behind. stands_stepped held after (area_next plain op) kept behind) untold_is lists.areas stand.areas in
+      (λ (plain : AreaState). area_next plain op) untold
+      (λ plain stands behind. stands_stepped held after (area_next plain op) kept behind) untold_is lists.areas stand.areas in
       record {
         after = if joins (end_of result) then lists_after lists moment (asks.Area area op) else lists;
         leads = ask_leads of_area untold (of_area (area_answer found.form op)) (end_of result) lists moment (asks.Area area op)
@@ -88,7 +91,8 @@ module _ (before : Regions) (is : AreRegions before) (area moment : ℕ) (op : A
   pub area_asked : (has_call_died result ≡ true → IsSpent left)
       → Calls of_area (LeadsRegions before (with_area before area after)) told left moment (asks.Area area op) (desk_result result)
   area_asked refused =
-      call_asked of_area (LeadsRegions before (with_area before area after)) told left moment (asks.Area area op) untold led.writes result led.spent refused leads
+      call_asked of_area (LeadsRegions before (with_area before area after)) told left moment (asks.Area area op) untold
+      led.writes result led.spent refused leads
 
   -- the regions stand for some lists still
   pub area_still : AreRegions (with_area before area after)

@@ -22,10 +22,12 @@ use Rattle.uw_shared.proofs.Places.{join_true}
 
 -- ---- caches
 
-cache_stands : (conf : CacheConf) (vault : VaultView) → IsCacheConf conf → BeginsAsCache conf vault → Stands cache_reading vault (record { conf = conf; list = [] })
+cache_stands : (conf : CacheConf) (vault : VaultView) → IsCacheConf conf → BeginsAsCache conf vault
+    → Stands cache_reading vault (record { conf = conf; list = [] })
 cache_stands conf vault is begins = record {
   conf = begins.conf;
-  stands = subst (λ (c : CacheConf). StandsFor (cache_kind c) vault.words []) (sym begins.conf) (agreeing_stand (cache_kind conf) (regions_local conf is) vault.words [] begins.empty);
+  stands = subst (λ (c : CacheConf). StandsFor (cache_kind c) vault.words []) (sym begins.conf)
+      (agreeing_stand (cache_kind conf) (regions_local conf is) vault.words [] begins.empty);
 }
 
 pub caches_stand : (confs : List CacheConf) (vaults : List VaultView) → AllByRecursion IsCacheConf confs → AllZip BeginsAsCache confs vaults
@@ -55,7 +57,8 @@ caches_closed (conf ∷ confs) (vault ∷ vaults) begin =
 
 area_stands : (size : ℕ) (area : AreaView) → BeginsAsArea size area → Stands area_reading area (blank_area size)
 area_stands size area begins =
-    let stands : StandsFor (area_kind size) area.words (blank_area size) = agreeing_stand (area_kind size) (area_local size) area.words (blank_area size) begins.blank in
+    let stands : StandsFor (area_kind size) area.words (blank_area size) =
+    agreeing_stand (area_kind size) (area_local size) area.words (blank_area size) begins.blank in
     record {
       conf = begins.size ∙ sym begins.blank.holds.many;
       stands = subst (λ (n : ℕ). StandsFor (area_kind n) area.words (blank_area size)) (sym begins.size) stands;

@@ -85,7 +85,8 @@ module _ (before : Regions) (is : AreRegions before) (cache moment : ℕ) (call 
   leads : LeadsRegions before (with_vault before cache after)
       (record { moment = moment; ask = asks.Cache cache call; end = asked_as of_cache untold (end_of result) } ∷ []) led.writes
   leads lists stand =
-      let found = led_at cache_reading of_cache before.caches cache vault after (record { who = 0; moment = moment; call = call }) told left (end_of result) here kept led
+      let found = led_at cache_reading of_cache before.caches cache vault after (record { who = 0; moment = moment; call = call }) told left
+      (end_of result) here kept led
       (stepped moment call) untold (λ plain. stands_stepped vault after moment call plain kept) untold_is lists.caches stand.caches in
       record {
         after = if joins (end_of result) then lists_after lists moment (asks.Cache cache call) else lists;
@@ -99,7 +100,8 @@ module _ (before : Regions) (is : AreRegions before) (cache moment : ℕ) (call 
   pub cache_asked : (has_call_died result ≡ true → IsSpent left)
       → Calls of_cache (LeadsRegions before (with_vault before cache after)) told left moment (asks.Cache cache call) (desk_result result)
   cache_asked refused =
-      call_asked of_cache (LeadsRegions before (with_vault before cache after)) told left moment (asks.Cache cache call) untold led.writes result led.spent refused leads
+      call_asked of_cache (LeadsRegions before (with_vault before cache after)) told left moment (asks.Cache cache call) untold
+      led.writes result led.spent refused leads
 
   -- the regions stand for some lists still
   pub cache_still : AreRegions (with_vault before cache after)

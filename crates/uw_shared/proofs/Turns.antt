@@ -41,7 +41,8 @@ counts_so kind untold (calls.died false) = refl
 counts_so kind untold calls.no_memory = refl
 
 -- the answer that counts is the one of a state, where those that were given are, and the one that was not told would be
-pub counted_is : {A : Type 0} (kind : A → AskAnswer) (untold right : AskAnswer) (end : CallEnd A) → ((answer : A) → end ≡ calls.given answer → kind answer ≡ right)
+pub counted_is : {A : Type 0} (kind : A → AskAnswer) (untold right : AskAnswer) (end : CallEnd A)
+    → ((answer : A) → end ≡ calls.given answer → kind answer ≡ right)
     → untold ≡ right → IfSome (counted_answer (asked_as kind untold end)) (λ given. given ≡ right)
 counted_is kind untold right (calls.given answer) given other = given answer refl
 counted_is kind untold right (calls.died true) given other = other
@@ -49,9 +50,11 @@ counted_is kind untold right (calls.died false) given other = tt
 counted_is kind untold right calls.no_memory given other = tt
 
 -- what a call of a desk did, where the call of its region led it on
-pub call_asked : {A : Type 0} (kind : A → AskAnswer) (led : List Asking → ℕ → Type 0) (told left : Option (List ℕ)) (moment : ℕ) (ask : Ask) (untold : AskAnswer) (writes : ℕ)
+pub call_asked : {A : Type 0} (kind : A → AskAnswer) (led : List Asking → ℕ → Type 0) (told left : Option (List ℕ)) (moment : ℕ) (ask : Ask)
+    (untold : AskAnswer) (writes : ℕ)
     (result : Result A CallFault) → Spends told left writes → (has_call_died result ≡ true → IsSpent left)
-    → led (record { moment = moment; ask = ask; end = asked_as kind untold (end_of result) } ∷ []) writes → Calls kind led told left moment ask (desk_result result)
+    → led (record { moment = moment; ask = ask; end = asked_as kind untold (end_of result) } ∷ []) writes
+    → Calls kind led told left moment ask (desk_result result)
 call_asked kind led told left moment ask untold writes (Ok answer) spent refused leads = (writes, leads, spent)
 call_asked kind led told left moment ask untold writes (Err (faults.Died true)) spent refused leads = (refused refl, (untold, (writes, leads, spent)))
 call_asked kind led told left moment ask untold writes (Err (faults.Died false)) spent refused leads = (refused refl, (writes, leads, spent))
@@ -79,13 +82,17 @@ module _ {V P F S C A : Type 0} (read : Reading V P F S C A) (kind : A → AskAn
       pub there : slice_get plain at ≡ Some form
       pub stands : Stands read region form
       pub turn : TurnAt read kind plain regions at made (asked_as kind untold end) led.writes (set regions at after)
-      pub answer : IfSome (counted_answer (asked_as kind untold end)) (λ given. given ≡ kind ((read.kind (read.conf region)).answer (read.state form) made.moment made.call))
+      pub answer : IfSome (counted_answer (asked_as kind untold end))
+          (λ given. given ≡ kind ((read.kind (read.conf region)).answer (read.state form) made.moment made.call))
       pub stand : AllZip (Stands read) (set regions at after) (if joins end then set plain at (step form) else plain)
 
     module _ (steps : (form : P) → Stands read region form
-        → StandsFor (read.kind (read.conf region)) (read.words after) ((read.kind (read.conf region)).next (read.state form) made.moment made.call) → Stands read after (step form))
-        (untold_is : (s : S) → StandsFor (read.kind (read.conf region)) (read.words region) s → untold ≡ kind ((read.kind (read.conf region)).answer s made.moment made.call)) where
-      stand_behind : (plain : List P) (form : P) → AllZip (Stands read) regions plain → slice_get plain at ≡ Some form → Stands read region form → (joined : Bool)
+        → StandsFor (read.kind (read.conf region)) (read.words after) ((read.kind (read.conf region)).next (read.state form) made.moment made.call)
+        → Stands read after (step form))
+        (untold_is : (s : S) → StandsFor (read.kind (read.conf region)) (read.words region) s
+        → untold ≡ kind ((read.kind (read.conf region)).answer s made.moment made.call)) where
+      stand_behind : (plain : List P) (form : P) → AllZip (Stands read) regions plain → slice_get plain at ≡ Some form → Stands read region form
+          → (joined : Bool)
           → StandsFor (read.kind (read.conf region)) (read.words after)
           (if joined then (read.kind (read.conf region)).next (read.state form) made.moment made.call else read.state form)
           → AllZip (Stands read) (set regions at after) (if joined then set plain at (step form) else plain)

@@ -55,8 +55,8 @@ pub record TurnAt {V P F S C A : Type 0} (read : Reading V P F S C A) (answer : 
   pub ends : EndsAsCall answer end ended
   pub runs : TurnRuns (read.kind (read.conf region)) (read.state form) made ended (read.words region) writes (read.words after)
 
--- an ask of regions that stand for lists: it takes a turn of the region of its cache or area, in which this desk is worker 0, for an area at moment 0; no ask of
--- the spool is one
+-- an ask of regions that stand for lists: it takes a turn of the region of its cache or area, in which this desk is worker 0, for an
+-- area at moment 0; no ask of the spool is one
 abbrev pub AskRunsBy : Lists → Regions → ℕ → Ask → AskEnd → ℕ → Regions → Type 0
 AskRunsBy lists before moment (asks.Cache cache call) end writes now =
     (caches : List VaultView) × (now ≡ record before { caches = caches })
@@ -80,8 +80,8 @@ AsksRun lists before [] writes now = (now ≡ before) × (writes ≡ 0)
 AsksRun lists before (a ∷ asked) writes now =
     (mid : Regions) × (first : ℕ) × (more : ℕ) × (writes ≡ first + more) × AskRuns lists before a first mid × AsksRun (lists_behind lists a) mid asked more now
 
--- from regions that stand for lists asks led to others: they lead the lists on to those for which the regions stand then, and took the regions there with just so
--- many word writes
+-- from regions that stand for lists asks led to others: they lead the lists on to those for which the regions stand then, and took the
+-- regions there with just so many word writes
 pub record LeadsOn (lists : Lists) (before : Regions) (asked : List Asking) (writes : ℕ) (now : Regions) : Type 0 where
   pub after : Lists
   pub leads : LeadsLists lists asked after
@@ -101,7 +101,8 @@ AsksRun-append : (lists mid : Lists) (a b c : Regions) (early late : List Asking
     → LeadsLists lists early mid → AsksRun lists a early first b → AsksRun mid b late more c → AsksRun lists a (early ++ late) (first + more) c
 AsksRun-append lists mid a b c [] late first more led ran on =
     let from_lists : AsksRun lists b late more c = let Running : Lists → Type 0 = λ from. AsksRun from b late more c in subst Running led on in
-    let from_regions : AsksRun lists a late more c = let Running : Regions → Type 0 = λ from. AsksRun lists from late more c in subst Running ran.0 from_lists in
+    let from_regions : AsksRun lists a late more c =
+    let Running : Regions → Type 0 = λ from. AsksRun lists from late more c in subst Running ran.0 from_lists in
     let Running : ℕ → Type 0 = λ writes. AsksRun lists a late writes c in
     subst Running (sym (ap (λ (n : ℕ). n + more) ran.1 ∙ zero-add more)) from_regions
 AsksRun-append lists mid a b c (x ∷ early) late first more led ran on = (

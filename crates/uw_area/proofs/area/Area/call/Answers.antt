@@ -10,8 +10,9 @@ use Rattle.uw_model.specs.AreaLayout.{area_words}
 use Rattle.uw_area.specs.declared.area.Held.{Held}
 use Rattle.uw_area.specs.declared.area.Area.TheInside.{Inside}
 use Rattle.uw_area.specs.contracts.area.Area.{the_view}
+use Rattle.uw_area.specs.AreaWords.{area_frame}
 use Rattle.uw_area.specs.AreaViews.{AreaView, HasOperated, IsStandingArea}
-use Rattle.uw_area.proofs.Standing.{is_frame, standing_frame, call_all, call_some, call_closed, kept_behind}
+use Rattle.uw_area.proofs.Standing.{is_frame, standing_frame, call_all, call_some, call_none, call_closed, kept_behind}
 use Rattle.uw_area.proofs.area.Area.call.Goals as goal
 use Rattle.uw_area.proofs.area.Area.call.Goals.{in-Ok-commit, in-Err+in-Bytes-1, in-Err+in-Number-1}
 
@@ -88,3 +89,13 @@ returns-clause-closed g c =
       | in-Err+in-Bytes-1 w ↦ λ alive. absurd (subst (λ (r : Result AreaAnswer CallFault). has_call_died r ≡ false → ⊥) (sym w.result-is) (λ same. cc) alive)
       | in-Err+in-Number-1 w ↦ λ alive. absurd (subst (λ (r : Result AreaAnswer CallFault). has_call_died r ≡ false → ⊥) (sym w.result-is) (λ same. cc) alive)
     ]
+
+pub returns-in_default-clause-operated : goal.returns-in_default-clause-operated
+returns-in_default-clause-operated g c =
+    let before = c.args.self.now in
+    let held = c.deref_mut-held.result.now in
+    let now : AreaView = record { size = held.size; words = held.ram; plan = c.plan_op.new.over.writes } in
+    let size : held.size ≡ before.size = ap (λ (h : Held). h.size) c.deref_mut-held.ensures.value ∙ ap (λ (v : AreaView). v.size) c.self.view_is in
+    let words : held.ram ≡ before.words = ap (λ (h : Held). h.ram) c.deref_mut-held.ensures.value ∙ ap (λ (v : AreaView). v.words) c.self.view_is in
+    call_none before now c.args.op.now c.plan_op.new.over held.size held.ram (area_frame held.size) size words refl refl refl c.plan_op.ensures.plan
+    (g.L.Life.allowances c.args.life.now) (g.L.Life.allowances c.args.life.now) refl refl

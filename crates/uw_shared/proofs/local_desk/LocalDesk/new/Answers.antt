@@ -36,7 +36,8 @@ pub returns-clause-settled : goal.returns-clause-settled
 returns-clause-settled c =
     join_true (list_all is_vault_closed c.in_ok-caches.caches.items)
     (list_all is_area_closed c.in_ok-areas.areas.items)
-    (caches_closed c.as_slice.result.now c.in_ok-caches.caches.items c.in_ok-caches.ensures) (areas_closed c.as_slice-2.result.now c.in_ok-areas.areas.items c.in_ok-areas.ensures)
+    (caches_closed c.as_slice.result.now c.in_ok-caches.caches.items c.in_ok-caches.ensures)
+    (areas_closed c.as_slice-2.result.now c.in_ok-areas.areas.items c.in_ok-areas.ensures)
 
 pub returns-clause-parts : goal.returns-clause-parts
 returns-clause-parts c = rw (← c.as_slice.ensures, ← c.as_slice-2.ensures)

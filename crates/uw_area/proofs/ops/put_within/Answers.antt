@@ -2,7 +2,7 @@ use Rattle.std.proofs.Common.{◌<◌, All, [], arith, refl}
 use Rattle.std.proofs.lemmas.List.Elements.{All-from_get_or}
 use Rattle.uw_words.proofs.Growth.{room_now}
 use Rattle.uw_area.proofs.Planning.{plans_write, row_room, count_room, counted_by}
-use Rattle.uw_area.proofs.ops.put.Goals as goal
+use Rattle.uw_area.proofs.ops.put_within.Goals as goal
 
 pub put_bytes-requires-clause-room : goal.put_bytes-requires-clause-room
 put_bytes-requires-clause-room c =
