@@ -1,8 +1,5 @@
 -- A run over the desk of one thread is one over regions and the lists for which they stand.
 use Rattle.std.proofs.Common.{◌≡◌, ℕ, Bool, true, false, not, List, Option, None, Some, is_some, refl, sym, subst}
-use Rattle.uw_outside.specs.Streams.{Inflow, Outflow}
-use Rattle.uw_keeper.specs.Keeping.{Keeping}
-use Rattle.uw_model.specs.Asks.{Asking}
 use Rattle.uw_session.specs.Exchange.{Site}
 use Rattle.uw_ends.specs.declared.ends.Brief.{Brief}
 use Rattle.uw_ends.specs.declared.ends.RunFault.{RunFault}

@@ -1,11 +1,11 @@
 -- The turns of a run, one after the other.
-use Rattle.std.proofs.Common.{◌≡◌, ℕ, ◌+◌, ◌<◌, ◌≤◌, Bool, false, true, List, [], ◌∷◌, ◌++◌, length, Option, None, Some, refl, sym, ap, inl, inr, lit<, ◌∙◌, arith, append_assoc, subst}
+use Rattle.std.proofs.Common.{◌≡◌, ℕ, ◌+◌, ◌<◌, ◌≤◌, Bool, false, true, List, [], ◌∷◌, ◌++◌, length, Option, None, Some, refl, sym, ap, inl, inr, ◌∙◌, arith, subst}
 use Rattle.std.proofs.lemmas.List.{append-nil, length-append, map-append}
 use Rattle.std.proofs.lemmas.Grind.{flat_map-append}
 use Rattle.uw_outside.specs.Faults.{HasCause, Rose}
 use Rattle.uw_outside.proofs.Causes.{HasCause-none, HasCause-then}
 use Rattle.uw_outside.specs.Lives.{Spends}
-use Rattle.uw_outside.specs.Streams.{Inflow, Outflow, Takes}
+use Rattle.uw_outside.specs.Streams.{Takes}
 use Rattle.uw_outside.proofs.Lives.{Spends-none}
 use Rattle.uw_outside.proofs.Streams.{Takes-none, Takes-append, Gives-none, Gives-append}
 use Rattle.uw_model.specs.Asks.{Asking}
@@ -13,7 +13,7 @@ use Rattle.uw_ends.specs.declared.ends.Brief.{Brief}
 use Rattle.uw_ends.specs.declared.ends.RunFault.{RunFault}
 use Rattle.uw_ends.specs.declared.ends.RunFault.TheVariants as faults
 use Rattle.uw_session.specs.Exchange.{Site, exchange_bytes}
-use Rattle.uw_top.specs.Pipe.{EndsBy, Ending, IsAtMost, IsBelowMost, IsTurn, LeavesAllowed, TurnsLead, PipeRun, Turn, asks_of_turn, brief_of, bytes_of, frame_of_end, frames_of, has_failed_to_read, has_failed_to_write, moments_of, most_packets}
+use Rattle.uw_top.specs.Pipe.{EndsBy, Ending, IsBelowMost, IsTurn, LeavesAllowed, TurnsLead, PipeRun, Turn, asks_of_turn, brief_of, bytes_of, frame_of_end, frames_of, has_failed_to_read, has_failed_to_write, moments_of, most_packets}
 use Rattle.uw_top.specs.PipeSteps.{SoFar, Goes, IsLast, LooksFurther}
 
 -- a count that rose since a moment rose since every earlier one

@@ -1,4 +1,4 @@
-use Rattle.std.proofs.Common.{◌≡◌, ◌∙◌, ℕ, ◌-◌, List, map, Option, Some, refl, sym, ap, subst, inl, inr}
+use Rattle.std.proofs.Common.{◌≡◌, ℕ, List, Option, Some, refl, sym, ap, subst, inl, inr}
 use Rattle.uw_outside.specs.Lives.{LifeLeft}
 use Rattle.uw_outside.specs.Streams.{inflow, outflow}
 use Rattle.uw_keeper.specs.Keeping.{Keeping, keeping}
@@ -9,12 +9,10 @@ use Rattle.uw_rules.specs.Compiled.{rules_of}
 use Rattle.uw_chain.proofs.SpoolLemmas.{kept_none}
 use Rattle.uw_conf.specs.declared.conf.Options.{Options}
 use Rattle.uw_ends.specs.declared.ends.Brief.{Brief}
-use Rattle.uw_ends.specs.declared.ends.RunEnd.{RunEnd}
-use Rattle.uw_ends.specs.declared.ends.RunFault.TheVariants as faults
 use Rattle.uw_session.specs.Exchange.{HasParts}
 use Rattle.uw_shared.specs.Regions.{Regions, RegionsStandFor}
 use Rattle.uw_shared.specs.AskRuns.{LeadsRegions}
-use Rattle.uw_top.specs.Kept.{PipeFlow, PipesOver, allowed_by}
+use Rattle.uw_top.specs.Kept.{PipeFlow, allowed_by}
 use Rattle.uw_top.specs.Pipe.{PipeRun, both_lead, first_lists, list_leads}
 use Rattle.uw_top.proofs.Keeping.{KeepsAs, keeps_by, regions_run}
 use Rattle.uw_top.proofs.Machine.{nothing_done}

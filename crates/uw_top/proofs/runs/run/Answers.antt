@@ -3,7 +3,6 @@ use Rattle.uw_outside.specs.Streams.{inflow, outflow}
 use Rattle.uw_outside.proofs.Streams.{Takes-none}
 use Rattle.uw_ends.specs.declared.ends.RunEnd.{RunEnd}
 use Rattle.uw_ends.specs.declared.words.Command.{Command}
-use Rattle.uw_ends.specs.declared.words.Command.TheVariants as commands
 use Rattle.uw_keeper.specs.Keeping.{keeping}
 use Rattle.uw_model.specs.Lists.{Lists}
 use Rattle.uw_session.specs.Exchange.{Site}
