@@ -21,7 +21,7 @@ use Rattle.uw_area.specs.AreaKind.{area_kind}
 use Rattle.uw_area.specs.AreaViews.{AreaView}
 use Rattle.uw_area.specs.AreaWords.{AgreesWithArea, area_frame}
 use Rattle.uw_shared.specs.AskRuns.{LeadsRegions, of_area}
-use Rattle.uw_shared.specs.Beginnings.{desk_result}
+use Rattle.uw_shared.specs.BeginningSteps.{desk_result}
 use Rattle.uw_shared.specs.Parts.{Stands, area_reading}
 use Rattle.uw_shared.specs.Regions.{AreRegions, Regions, RegionsStandFor, is_area_closed, is_settled, is_vault_closed}
 use Rattle.uw_shared.proofs.Places.{both_true, join_true, passing_set, zip_at}

@@ -15,7 +15,7 @@ use Rattle.uw_cache.specs.Vaults.{VaultView}
 use Rattle.uw_area.specs.AreaKind.{area_kind}
 use Rattle.uw_area.specs.AreaViews.{AreaView}
 use Rattle.uw_area.proofs.Standing.{area_local}
-use Rattle.uw_shared.specs.Beginnings.{BeginsAsArea, BeginsAsCache}
+use Rattle.uw_shared.specs.BeginningSteps.{BeginsAsArea, BeginsAsCache}
 use Rattle.uw_shared.specs.Parts.{Stands, area_reading, cache_reading}
 use Rattle.uw_shared.specs.Regions.{is_area_closed, is_vault_closed}
 use Rattle.uw_shared.proofs.Places.{join_true}

@@ -24,7 +24,7 @@ use Rattle.uw_plan.specs.Regions.{frame_of, shape_of}
 use Rattle.uw_plan.proofs.Agreeing.{list_once}
 use Rattle.uw_cache.specs.Vaults.{VaultView}
 use Rattle.uw_shared.specs.AskRuns.{LeadsRegions, of_cache}
-use Rattle.uw_shared.specs.Beginnings.{desk_result}
+use Rattle.uw_shared.specs.BeginningSteps.{desk_result}
 use Rattle.uw_shared.specs.Parts.{Stands, cache_reading}
 use Rattle.uw_shared.specs.Regions.{AreRegions, Regions, RegionsStandFor, is_area_closed, is_settled, is_vault_closed}
 use Rattle.uw_shared.proofs.Places.{both_true, each_at, each_set, join_true, passing_set, zip_at}

@@ -16,7 +16,7 @@ use Rattle.uw_intent.specs.CallTurns.{CallEnd}
 use Rattle.uw_intent.specs.CallTurns as calls
 use Rattle.uw_intent.specs.OneTurn.{AnswersAs, LedByTurn, end_of, has_call_died, joins}
 use Rattle.uw_shared.specs.AskRuns.{EndsAsCall, TurnAt}
-use Rattle.uw_shared.specs.Beginnings.{desk_result}
+use Rattle.uw_shared.specs.BeginningSteps.{desk_result}
 use Rattle.uw_shared.specs.Parts.{Reading, Stands}
 use Rattle.uw_shared.proofs.Places.{zip_at, zip_set, zip_set_left}
 

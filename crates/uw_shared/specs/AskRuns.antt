@@ -31,6 +31,7 @@ EndsAsCall kind end calls.no_memory = end ≡ ends.no_memory
 abbrev pub of_cache : Answer → AskAnswer
 of_cache answer = ask_answers.Cache answer
 
+-- the answer of an area, as the answer of an ask
 abbrev pub of_area : AreaAnswer → AskAnswer
 of_area answer = ask_answers.Area answer
 

@@ -6,7 +6,7 @@ ghost use Rattle.uw_model.specs.AreaOps.{IsAreaSize};
 ghost use Rattle.uw_model.specs.Lists.{empty_lists};
 ghost use Rattle.uw_shared.specs.Regions.{RegionsStandFor, RegionsStandFor-parts, is_settled, parts_of_regions};
 ghost use Rattle.uw_shared.specs.AskRuns.{LeadsOn, LeadsRegions, LeadsRegions-append, LeadsRegions-none};
-ghost use Rattle.uw_shared.specs.Beginnings.{BeginsAsArea, BeginsAsCache, desk_result};
+ghost use Rattle.uw_shared.specs.BeginningSteps.{BeginsAsArea, BeginsAsCache, desk_result};
 
 use std::alloc::Global;
 use std::marker::Model;

@@ -4,7 +4,7 @@ use Rattle.std.proofs.lemmas.Slice.Zip.{AllZip-long}
 use Rattle.std.specs.List.{AllZip, list_all}
 use Rattle.uw_model.specs.Asks.{DeskParts}
 use Rattle.uw_model.specs.Lists.{empty_lists}
-use Rattle.uw_shared.specs.Beginnings.{BeginsAsArea, BeginsAsCache}
+use Rattle.uw_shared.specs.BeginningSteps.{BeginsAsArea, BeginsAsCache}
 use Rattle.uw_shared.specs.Regions.{is_area_closed, is_vault_closed}
 use Rattle.uw_shared.proofs.Beginnings.{areas_closed, areas_stand, caches_closed, caches_stand, caches_within}
 use Rattle.uw_shared.proofs.Places.{join_true}
