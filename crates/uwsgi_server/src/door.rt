@@ -12,13 +12,14 @@ use uw_rules::RegexPatterns;
 const MOST_READ: usize = 1_048_577;
 
 /// The name, and the number that stands first in CHANGELOG.md.
-const VERSION: &[u8] = b"niqwasel 0.4.0\n";
+const VERSION: &[u8] = b"niqwasel 0.5.0\n";
 
 const HELP: &[u8] = b"\
 The uWSGI server as an application server without an interpreter.
 
   uwsgi-server FILE SPOOL pipe                answer uwsgi packets, input to output
       uwsgi-server site.ini - pipe < packets > replies
+      uwsgi-server site.ini - pipe --die 3,7 < packets    by a worker that dies
   uwsgi-server FILE SPOOL spool               run the tasks of the folder SPOOL
       uwsgi-server site.ini tasks spool
   uwsgi-server FILE SPOOL load FIRST COUNT    answer COUNT packets of its own
@@ -34,7 +35,7 @@ Status: 0 done, 1 usage, 2 configuration refused, 3 read failed, 4 write failed,
 5 truncated, 6 packet refused, 7 spool failed, 8 out of memory, 9 too many.
 
 Documents: README.md, docs/CONFIG.md and docs/RULES.md (FILE), docs/SPOOL.md,
-docs/PROTOCOL.md (packets), docs/MIGRATE.md (for who has a uWSGI site).
+docs/PROTOCOL.md (packets), docs/DEATHS.md (--die), docs/MIGRATE.md (from uWSGI).
 ";
 
 /// The status where the words ask something at the door, which is then answered; none where they do not.
