@@ -51,7 +51,10 @@ fn a_desk_is_kept_where_pipe_ends_without_a_fault(rt: HostRuntime) -> Result<(),
     assert!(rt; kept.is_none());
     assert_eq!(rt; status(alloc, &["spool"], SET, &mut kept)?, 0);
     assert!(rt; kept.is_none());
-    assert_eq!(rt; status(alloc, &["pipe", "--die", "1,1"], SET, &mut kept)?, 0);
+    assert_eq!(rt;
+        status(alloc, &["pipe", "--die", "1,1"], SET, &mut kept)?,
+        0
+    );
     assert!(rt; kept.is_some());
     assert_eq!(rt; status(alloc, &["pipe"], b"\x6f", &mut kept)?, 5);
     assert!(rt; kept.is_some());
