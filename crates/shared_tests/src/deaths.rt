@@ -11,8 +11,8 @@ use std::alloc::Global;
 use std::test::Fail;
 use uw_base::{Bytes, Memory, NumberList};
 use uw_model::{
-    Answer, AreaAnswer, AreaOp, Ask, AskAnswer, CacheConf, CacheConfList, Call,
-    DeskFault, ListDesk, Width, make_ask,
+    Answer, AreaAnswer, AreaOp, Ask, AskAnswer, CacheConf, CacheConfList, Call, DeskFault,
+    ListDesk, Width, make_ask,
 };
 use uw_outside::{Fuse, Immortal};
 use uw_shared::LocalDesk;
@@ -157,9 +157,8 @@ fn are_same(answer: &AskAnswer, other: &AskAnswer) -> bool {
         (AskAnswer::Area(AreaAnswer::Bytes(bytes)), AskAnswer::Area(AreaAnswer::Bytes(other))) => {
             bytes.as_slice() == other.as_slice()
         }
-        (AskAnswer::Area(AreaAnswer::Number(number)), AskAnswer::Area(AreaAnswer::Number(other))) => {
-            number == other
-        }
+        (AskAnswer::Area(AreaAnswer::Number(number)), AskAnswer::Area(AreaAnswer::Number(other))) =>
+            { number == other }
         _ => false,
     }
 }
@@ -222,19 +221,19 @@ fn dies_at(alloc: Global, n: u64) -> Result<Fuse, Memory>
 
 /// What became of the asks where the n-th word write was refused.
 #[derive(Drop)]
-struct Run {
+struct Ending {
     same: bool,
     /// Whether the ask that died counted; None where none died.
     whole: Option<bool>,
 }
 
-fn run(alloc: Global, n: u64) -> Result<Run, Memory> {
+fn ask_all(alloc: Global, n: u64) -> Result<Ending, Memory> {
     let confs = two_confs(alloc)?;
     let sizes = one_size(alloc)?;
     let mut regions = LocalDesk::new(alloc, &confs, &sizes)?;
     let mut lists = ListDesk::new(alloc, &confs, &sizes)?;
     let mut life = dies_at(alloc, n)?;
-    let mut done = Run {
+    let mut done = Ending {
         same: true,
         whole: None,
     };
@@ -258,9 +257,9 @@ fn each_death_leaves_the_lists_before_the_ask_or_those_behind_it(
     let mut whole = 0u64;
     let mut ended = false;
     for n in 1..WRITES {
-        let run = run(rt.alloc(), n)?;
-        assert!(rt; run.same, "{n}");
-        match run.whole {
+        let ending = ask_all(rt.alloc(), n)?;
+        assert!(rt; ending.same, "{n}");
+        match ending.whole {
             Some(true) => whole = whole.saturating_add(1),
             Some(false) => absent = absent.saturating_add(1),
             None => {

@@ -1,5 +1,6 @@
 -- Bytes in the words of a region: how one is read, and a slice of them.
-use Rattle.std.proofs.Common.{◌≡◌, inl, inr, ℕ, zero, suc, ◌+◌, ◌*◌, ◌-◌, ◌/◌, ◌%◌, ◌<◌, ◌≤◌, All, List, [], ◌∷◌, ◌++◌, length, take, drop, get_or, refl, sym, ap, ◌∙◌, subst, arith, length-append, length-drop}
+use Rattle.std.proofs.Common.{◌≡◌, inl, inr, ℕ, zero, suc, ◌+◌, ◌*◌, ◌-◌, ◌/◌, ◌%◌, ◌<◌, ◌≤◌, All, List, [], ◌∷◌, ◌++◌, length, take, drop, get_or}
+use Rattle.std.proofs.Common.{refl, sym, ap, ◌∙◌, subst, arith, length-append, length-drop}
 use Rattle.std.specs.Int.{w64, from_le_bytes, to_le_bytes}
 use Rattle.std.specs.List.{slice_range, splice}
 use Rattle.std.proofs.lemmas.Bool.{cases_lt}
@@ -46,7 +47,8 @@ eight_small text small k = elim (cases_lt k 8) [
 ]
 
 -- a byte of a word of bytes
-pub word_byte : (bytes : List ℕ) → All (λ byte. byte < 256) bytes → (k i : ℕ) → i < 8 → get_or (to_le_bytes w64 (text_word bytes k)) i 0 ≡ get_or bytes (8 * k + i) 0
+pub word_byte : (bytes : List ℕ) → All (λ byte. byte < 256) bytes → (k i : ℕ) → i < 8
+    → get_or (to_le_bytes w64 (text_word bytes k)) i 0 ≡ get_or bytes (8 * k + i) 0
 word_byte bytes all k i within =
     let text = drop (8 * k) bytes in
     let small : (j : ℕ) → get_or text j 0 < 256 = λ j. subst (λ (b : ℕ). b < 256) (sym (get_or-drop (8 * k) bytes j 0)) (byte_small bytes all (8 * k + j)) in
@@ -54,16 +56,41 @@ word_byte bytes all k i within =
     ap (λ (l : List ℕ). get_or l i 0) same ∙ eight_read text i within ∙ get_or-drop (8 * k) bytes i 0
 
 -- eight bytes are a word of bytes
-pub word_of_eight : (bytes : List ℕ) (k : ℕ) (text : List ℕ) → ((i : ℕ) → i < 8 → get_or text i 0 ≡ get_or bytes (8 * k + i) 0) → from_le_bytes w64 text ≡ text_word bytes k
-word_of_eight bytes k text same = omega (arith, at 0 (omega arith), at 1 (omega arith), at 2 (omega arith), at 3 (omega arith), at 4 (omega arith), at 5 (omega arith), at 6 (omega arith), at 7 (omega arith))
+pub word_of_eight : (bytes : List ℕ) (k : ℕ) (text : List ℕ) → ((i : ℕ) → i < 8 → get_or text i 0 ≡ get_or bytes (8 * k + i) 0)
+    → from_le_bytes w64 text ≡ text_word bytes k
+word_of_eight bytes k text same = omega (
+  arith,
+  at 0 (omega arith),
+  at 1 (omega arith),
+  at 2 (omega arith),
+  at 3 (omega arith),
+  at 4 (omega arith),
+  at 5
+      (omega arith),
+  at 6 (omega arith),
+  at 7 (omega arith),
+)
   where
     at : (i : ℕ) → i < 8 → get_or text i 0 ≡ get_or (drop (8 * k) bytes) i 0
     at i h = same i h ∙ sym (get_or-drop (8 * k) bytes i 0)
 
-pub word_of_bytes : (bytes : List ℕ) (k b0 b1 b2 b3 b4 b5 b6 b7 : ℕ) → b0 ≡ get_or bytes (8 * k) 0 → b1 ≡ get_or bytes (8 * k + 1) 0 → b2 ≡ get_or bytes (8 * k + 2) 0
-    → b3 ≡ get_or bytes (8 * k + 3) 0 → b4 ≡ get_or bytes (8 * k + 4) 0 → b5 ≡ get_or bytes (8 * k + 5) 0 → b6 ≡ get_or bytes (8 * k + 6) 0 → b7 ≡ get_or bytes (8 * k + 7) 0
+pub word_of_bytes : (bytes : List ℕ) (k b0 b1 b2 b3 b4 b5 b6 b7 : ℕ) → b0 ≡ get_or bytes (8 * k) 0 → b1 ≡ get_or bytes (8 * k + 1) 0
+    → b2 ≡ get_or bytes (8 * k + 2) 0
+    → b3 ≡ get_or bytes (8 * k + 3) 0 → b4 ≡ get_or bytes (8 * k + 4) 0 → b5 ≡ get_or bytes (8 * k + 5) 0 → b6 ≡ get_or bytes (8 * k + 6) 0
+    → b7 ≡ get_or bytes (8 * k + 7) 0
     → from_le_bytes w64 (b0 ∷ b1 ∷ b2 ∷ b3 ∷ b4 ∷ b5 ∷ b6 ∷ b7 ∷ []) ≡ text_word bytes k
-word_of_bytes bytes k b0 b1 b2 b3 b4 b5 b6 b7 e0 e1 e2 e3 e4 e5 e6 e7 = omega (arith, e0 ∙ ap (λ (n : ℕ). get_or bytes n 0) here ∙ at 0, e1 ∙ at 1, e2 ∙ at 2, e3 ∙ at 3, e4 ∙ at 4, e5 ∙ at 5, e6 ∙ at 6, e7 ∙ at 7)
+word_of_bytes bytes k b0 b1 b2 b3 b4 b5 b6 b7 e0 e1 e2 e3 e4 e5 e6 e7 = omega (
+  arith,
+  e0 ∙ ap (λ (n : ℕ). get_or bytes n 0) here ∙ at 0,
+  e1 ∙ at 1,
+  e2
+      ∙ at 2,
+  e3 ∙ at 3,
+  e4 ∙ at 4,
+  e5 ∙ at 5,
+  e6 ∙ at 6,
+  e7 ∙ at 7,
+)
   where
     here : 8 * k ≡ 8 * k + 0
     here = omega arith
@@ -71,7 +98,8 @@ word_of_bytes bytes k b0 b1 b2 b3 b4 b5 b6 b7 e0 e1 e2 e3 e4 e5 e6 e7 = omega (a
     at : (i : ℕ) → get_or bytes (8 * k + i) 0 ≡ get_or (drop (8 * k) bytes) i 0
     at i = sym (get_or-drop (8 * k) bytes i 0)
 
-pub word_same : (bytes other : List ℕ) (k : ℕ) → ((i : ℕ) → i < 8 → get_or bytes (8 * k + i) 0 ≡ get_or other (8 * k + i) 0) → text_word bytes k ≡ text_word other k
+pub word_same : (bytes other : List ℕ) (k : ℕ) → ((i : ℕ) → i < 8 → get_or bytes (8 * k + i) 0 ≡ get_or other (8 * k + i) 0)
+    → text_word bytes k ≡ text_word other k
 word_same bytes other k same = word_of_eight other k (drop (8 * k) bytes) (λ i h. get_or-drop (8 * k) bytes i 0 ∙ same i h)
 
 -- a byte that words hold
@@ -95,7 +123,8 @@ words_length reader at zero = refl
 words_length reader at (suc count) =
     omega (arith, length-append (to_le_bytes w64 (reader at)) (word_bytes reader (at + 1) count), eight_bytes (reader at), words_length reader (at + 1) count)
 
-words_byte : (reader : ℕ → ℕ) (count at i : ℕ) → i < 8 * count → get_or (word_bytes reader at count) i 0 ≡ get_or (to_le_bytes w64 (reader (at + i / 8))) (i % 8) 0
+words_byte : (reader : ℕ → ℕ) (count at i : ℕ) → i < 8 * count
+    → get_or (word_bytes reader at count) i 0 ≡ get_or (to_le_bytes w64 (reader (at + i / 8))) (i % 8) 0
 words_byte reader zero at i within = absurd (omega (arith, within))
 words_byte reader (suc count) at i within =
     let first = to_le_bytes w64 (reader at) in
@@ -109,7 +138,8 @@ words_byte reader (suc count) at i within =
       | inr long ↦
           let place : at + 1 + (i - 8) / 8 ≡ at + i / 8 = omega (arith, long) in
           let left : (i - 8) % 8 ≡ i % 8 = omega (arith, long) in
-          get_or-append_right first rest 8 i 0 (eight_bytes (reader at)) (omega (arith, long)) ∙ words_byte reader count (at + 1) (i - 8) (omega (arith, long, within))
+          get_or-append_right first rest 8 i 0 (eight_bytes (reader at)) (omega (arith, long))
+          ∙ words_byte reader count (at + 1) (i - 8) (omega (arith, long, within))
           ∙ ap (λ (n : ℕ). get_or (to_le_bytes w64 (reader n)) ((i - 8) % 8) 0) place
           ∙ ap (λ (n : ℕ). get_or (to_le_bytes w64 (reader (at + i / 8))) n 0) left
     ]
@@ -134,12 +164,14 @@ read_next reader at (suc k) skip from bytes few first later are =
     ap (λ (l : List ℕ). l ++ drop from word) are ∙ ap (λ (n : ℕ). drop skip early ++ drop n word) (later (omega arith))
     ∙ sym (drop-append-le skip early word (omega (arith, words_length reader at (suc k), few))) ∙ ap (drop skip) (sym (words_more reader at (suc k)))
 
-pub slice_read : (reader : ℕ → ℕ) (start : ℕ) (bytes : List ℕ) → All (λ byte. byte < 256) bytes → HoldsText reader start bytes → (at len count : ℕ) → at + len ≤ length bytes
+pub slice_read : (reader : ℕ → ℕ) (start : ℕ) (bytes : List ℕ) → All (λ byte. byte < 256) bytes → HoldsText reader start bytes → (at len count : ℕ)
+    → at + len ≤ length bytes
     → at % 8 + len ≤ 8 * count
     → take len (drop (at % 8) (word_bytes reader (start + at / 8) count)) ≡ slice_range bytes at (at + len)
 slice_read reader start bytes all holds at len count within fits =
     let read = word_bytes reader (start + at / 8) count in
-    let long : length (drop (at % 8) read) ≡ 8 * count - at % 8 = length-drop (at % 8) read ∙ ap (λ (n : ℕ). n - at % 8) (words_length reader (start + at / 8) count) in
+    let long : length (drop (at % 8) read) ≡ 8 * count - at % 8 = length-drop (at % 8) read
+    ∙ ap (λ (n : ℕ). n - at % 8) (words_length reader (start + at / 8) count) in
     let left : length (take len (drop (at % 8) read)) ≡ len = length-take-le len (drop (at % 8) read) (omega (arith, long, fits)) in
     let right : length (slice_range bytes at (at + len)) ≡ at + len - at =
     length-take-le (at + len - at) (drop at bytes) (omega (arith, within, length-drop at bytes)) in
@@ -178,7 +210,8 @@ word_inside bytes put at within k low high =
     ∙ ap (λ (n : ℕ). get_or (splice bytes at (at + length put) put) n 0) place)
 
 -- a word before the new bytes or behind them
-pub word_before : (bytes put : List ℕ) (at : ℕ) → at + length put ≤ length bytes → (k : ℕ) → 8 * k + 8 ≤ at → text_word bytes k ≡ text_word (splice bytes at (at + length put) put) k
+pub word_before : (bytes put : List ℕ) (at : ℕ) → at + length put ≤ length bytes → (k : ℕ) → 8 * k + 8 ≤ at
+    → text_word bytes k ≡ text_word (splice bytes at (at + length put) put) k
 word_before bytes put at within k low =
     word_same bytes (splice bytes at (at + length put) put) k (λ i h. sym (spliced_before bytes put at within (8 * k + i) (omega (arith, low, h))))
 

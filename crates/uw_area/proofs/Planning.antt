@@ -1,5 +1,6 @@
 -- What operations plan, and what they answer.
-use Rattle.std.proofs.Common.{◌≡◌, ◌≢◌, ◌⊎◌, inl, inr, ℕ, ◌+◌, ◌*◌, ◌/◌, ◌%◌, ◌^◌, ◌<◌, ◌≤◌, nat_le, All, Bool, true, false, List, [], ◌∷◌, ◌++◌, length, refl, sym, ap, ◌∙◌, subst, arith, length-append, take, drop}
+use Rattle.std.proofs.Common.{◌≡◌, ◌≢◌, ◌⊎◌, inl, inr, ℕ, ◌+◌, ◌*◌, ◌/◌, ◌%◌, ◌^◌, ◌<◌, ◌≤◌, nat_le, All, Bool, true, false, List, [], ◌∷◌, ◌++◌}
+use Rattle.std.proofs.Common.{length, refl, sym, ap, ◌∙◌, subst, arith, length-append, take, drop}
 use Rattle.std.specs.List.{splice}
 use Rattle.std.proofs.lemmas.Bool.{cases_eq, le-leb}
 use Rattle.std.proofs.lemmas.Bool.Decides.{nat_tests}
@@ -18,7 +19,8 @@ use Rattle.uw_words.specs.Plans.{HasDistinctPlaces, Plan, region, through}
 use Rattle.uw_words.specs.Numbers.{IsNoneOf, IsOneOf}
 use Rattle.uw_words.specs.Parts.{seen, places_of, with_place, with_places, HasRoom, GrewAt}
 use Rattle.uw_words.specs.Texts.{HoldsText}
-use Rattle.uw_words.proofs.Growth.{put_on, grew_put, grew_then, in_row, none_before, places-le-length, read_grown, read_other, read_put, room_then, row_length, spare_room, room_early}
+use Rattle.uw_words.proofs.Growth.{put_on, grew_put, grew_then, in_row, none_before, places-le-length, read_grown, read_other, read_put, room_then}
+use Rattle.uw_words.proofs.Growth.{row_length, spare_room, room_early}
 use Rattle.uw_intent.specs.declared.frame.Frame.{Frame}
 use Rattle.uw_intent.specs.RedoRecord.{FitsRecord, IsTarget, commit_writes}
 use Rattle.uw_intent.proofs.Listed.{length-commit_writes}
@@ -88,7 +90,8 @@ holds_same size area one two same holds = record {
 
 -- ---- slices within the area, and beyond it
 
-pub answered : (area : AreaState) (size at len : ℕ) (given : AreaAnswer) → length area.bytes ≡ size → nat_le (at + len) size ≡ true → within_area area at len given ≡ given
+pub answered : (area : AreaState) (size at len : ℕ) (given : AreaAnswer) → length area.bytes ≡ size → nat_le (at + len) size ≡ true
+    → within_area area at len given ≡ given
 answered area size at len given many inside = rw (many, inside) refl
 
 pub refused : (area : AreaState) (size at len : ℕ) (given : AreaAnswer) → length area.bytes ≡ size → nat_le (at + len) size ≡ false
@@ -113,7 +116,8 @@ put_beyond area size at put many past = rw (many, past) refl
 
 -- ---- plans
 
-pub plans_nothing : (size : ℕ) (words : List ℕ) (op : AreaOp) (plan : Plan) → plan.writes ≡ [] → ((area : AreaState) → HoldsArea (region words) size area → area_next area op ≡ area)
+pub plans_nothing : (size : ℕ) (words : List ℕ) (op : AreaOp) (plan : Plan) → plan.writes ≡ [] → ((area : AreaState) → HoldsArea (region words) size area
+    → area_next area op ≡ area)
     → PlansOp size words op plan
 plans_nothing size words op plan empty same = record {
   fits =
@@ -128,7 +132,8 @@ plans_nothing size words op plan empty same = record {
 }
 
 -- bytes are put, and the update is counted
-module _ (size : ℕ) (words : List ℕ) (before mid now : Plan) (at : ℕ) (put : List ℕ) (unplanned : IsUnplanned size words before) (within : at + length put ≤ size)
+module _ (size : ℕ) (words : List ℕ) (before mid now : Plan) (at : ℕ) (put : List ℕ) (unplanned : IsUnplanned size words before)
+    (within : at + length put ≤ size)
     (few_bytes : length put ≤ 65536) where
   abbrev row : List ℕ
   row = touched_places at (at + length put)
@@ -146,7 +151,15 @@ module _ (size : ℕ) (words : List ℕ) (before mid now : Plan) (at : ℕ) (put
   pub has_room : HasRoom before (touched_places at (at + length put) ++ 2 ∷ [])
   has_room =
       spare_room before places
-      (omega (arith, ap length unplanned.empty, unplanned.room, touched_few, length-append row (2 ∷ []), row_length (16 + at / 8) (touched_words at (at + length put))))
+      (omega (
+        arith,
+        ap length unplanned.empty,
+        unplanned.room,
+        touched_few,
+        length-append row (2 ∷ []),
+        row_length (16 + at / 8) (touched_words at
+            (at + length put)),
+      ))
 
   pub row_room : HasRoom before (touched_places at (at + length put))
   row_room = room_early row (2 ∷ []) before has_room
@@ -183,7 +196,12 @@ module _ (size : ℕ) (words : List ℕ) (before mid now : Plan) (at : ℕ) (put
             let inside = in_row (16 + at / 8) (touched_words at (at + length put)) place byte in
             record {
               within = omega (arith, within, inside.0, inside.1);
-              beyond = record { outside = inl (omega (arith, within, inside.0, inside.1)); gate = λ same. omega (arith, inside.0, same); used = λ same. omega (arith, inside.0, same) };
+              beyond = record {
+                outside = inl (omega (arith, within, inside.0, inside.1));
+                gate = λ same. omega
+                    (arith, inside.0, same);
+                used = λ same. omega (arith, inside.0, same);
+              };
             }
         | inr count ↦ elim count [
           | inl here ↦ record {
@@ -197,7 +215,11 @@ module _ (size : ℕ) (words : List ℕ) (before mid now : Plan) (at : ℕ) (put
       other : (place : ℕ) → place < 16 → place ≢ 2 → seen now words place ≡ region words place
       other place early apart =
           read_grown places before now words place all_grew
-          (none_of_both row (2 ∷ []) place (none_before (16 + at / 8) (touched_words at (at + length put)) place (omega (arith, early))) ((λ same. apart (sym same)), tt))
+          (none_of_both row (2 ∷ []) place (none_before (16 + at / 8) (touched_words at (at + length put)) place (omega (arith, early))) (
+            (λ same. apart
+                (sym same)),
+            tt,
+          ))
           ∙ seen_none before words place unplanned.empty
 
       put_next : (area : AreaState) → HoldsArea (region words) size area → HoldsArea (seen now words) size (with_bytes area at put)
@@ -215,15 +237,18 @@ module _ (size : ℕ) (words : List ℕ) (before mid now : Plan) (at : ℕ) (put
                 ∙ ap (λ (n : ℕ). (n + 1) % 2 ^ 64) old;
             many = spliced_size area.bytes put at here ∙ holds.many;
             small =
-                All-append (λ byte. byte < 256) (take at area.bytes) (put ++ drop (at + length put) area.bytes) (All-take (λ byte. byte < 256) at area.bytes holds.small)
-                (All-append (λ byte. byte < 256) put (drop (at + length put) area.bytes) small (All-drop (λ byte. byte < 256) (at + length put) area.bytes holds.small));
+                All-append (λ byte. byte < 256) (take at area.bytes) (put ++ drop (at + length put) area.bytes) (All-take
+                (λ byte. byte < 256) at area.bytes holds.small)
+                (All-append (λ byte. byte < 256) put (drop (at + length put) area.bytes) small (All-drop (λ byte. byte < 256)
+                (at + length put) area.bytes holds.small));
             bytes = λ k short.
                 ap (λ (p : Plan). seen p words (16 + k)) counted
                 ∙ read_other mid.writes (region words) 2 ((seen mid words 2 + 1) % 2 ^ 64) (16 + k) (λ same. omega (arith, same))
                 ∙ spliced area.bytes holds.small here (λ j inside. seen_none before words (16 + j) unplanned.empty ∙ holds.bytes j inside) k short;
           }
 
-      put_few : (area : AreaState) → HoldsArea (region words) size area → length (commit_writes (area_frame size) now.writes) ≤ most_area_writes area (ops.Write at put)
+      put_few : (area : AreaState) → HoldsArea (region words) size area
+          → length (commit_writes (area_frame size) now.writes) ≤ most_area_writes area (ops.Write at put)
       put_few area holds =
           let inside : nat_le (at + length put) (length area.bytes) ≡ true = le-leb (at + length put) (length area.bytes) (omega (arith, within, holds.many)) in
           rw inside (commit_few (area_frame size) now.writes (touched_words at (at + length put) + 1) few_writes)
@@ -250,10 +275,12 @@ module _ (size : ℕ) (words : List ℕ) (before mid now : Plan) (at : ℕ) (put
 pub plans_refused : (size : ℕ) (words : List ℕ) (at : ℕ) (put : List ℕ) (plan : Plan) → plan.writes ≡ [] → nat_le (at + length put) size ≡ false
     → PlansOp size words (ops.Write at put) plan
 unfolding area_next
-plans_refused size words at put plan empty past = plans_nothing size words (ops.Write at put) plan empty (λ area holds. put_beyond area size at put holds.many past)
+plans_refused size words at put plan empty past = plans_nothing size words (ops.Write at put) plan empty
+    (λ area holds. put_beyond area size at put holds.many past)
 
 -- an operation that writes as some bytes are written
-pub plans_as : (size : ℕ) (words : List ℕ) (op : AreaOp) (at : ℕ) (put : List ℕ) (plan : Plan) → is_area_write op ≡ true → op_start op ≡ at → op_end op ≡ at + length put
+pub plans_as : (size : ℕ) (words : List ℕ) (op : AreaOp) (at : ℕ) (put : List ℕ) (plan : Plan) → is_area_write op ≡ true → op_start op ≡ at
+    → op_end op ≡ at + length put
     → ((area : AreaState) → HoldsArea (region words) size area → area_next area op ≡ area_next area (ops.Write at put))
     → PlansOp size words (ops.Write at put) plan
     → PlansOp size words op plan
@@ -276,7 +303,8 @@ width_long widths.W64 number = refl
 number_end : (width : Width) (at number : ℕ) → at + width_bytes width ≡ at + length (bytes_in_width width number)
 number_end width at number = ap (λ (n : ℕ). at + n) (sym (width_long width number))
 
-pub plans_number : (size : ℕ) (words : List ℕ) (at : ℕ) (width : Width) (value : ℕ) (plan : Plan) → PlansOp size words (ops.Write at (bytes_in_width width value)) plan
+pub plans_number : (size : ℕ) (words : List ℕ) (at : ℕ) (width : Width) (value : ℕ) (plan : Plan)
+    → PlansOp size words (ops.Write at (bytes_in_width width value)) plan
     → PlansOp size words (ops.WriteNum at width value) plan
 unfolding area_next
 plans_number size words at width value plan plans =
@@ -288,7 +316,8 @@ pub plans_sum : (size : ℕ) (words : List ℕ) (at : ℕ) (width : Width) (by n
     → PlansOp size words (ops.IncNum at width by) plan
 unfolding area_next
 plans_sum size words at width by number plan is plans =
-    plans_as size words (ops.IncNum at width by) at (bytes_in_width width (sum_in width number by)) plan refl refl (number_end width at (sum_in width number by))
+    plans_as size words (ops.IncNum at width by) at (bytes_in_width width (sum_in width number by)) plan refl refl (number_end width at
+    (sum_in width number by))
     (λ area holds. ap (λ (n : ℕ). with_bytes area at (bytes_in_width width (sum_in width n by))) (sym (is area holds))) plans
 
 pub plans_difference : (size : ℕ) (words : List ℕ) (at : ℕ) (width : Width) (by number : ℕ) (plan : Plan)
@@ -297,7 +326,8 @@ pub plans_difference : (size : ℕ) (words : List ℕ) (at : ℕ) (width : Width
     → PlansOp size words (ops.DecNum at width by) plan
 unfolding area_next
 plans_difference size words at width by number plan is plans =
-    plans_as size words (ops.DecNum at width by) at (bytes_in_width width (difference_in width number by)) plan refl refl (number_end width at (difference_in width number by))
+    plans_as size words (ops.DecNum at width by) at (bytes_in_width width (difference_in width number by)) plan refl refl (number_end width at
+    (difference_in width number by))
     (λ area holds. ap (λ (n : ℕ). with_bytes area at (bytes_in_width width (difference_in width n by))) (sym (is area holds))) plans
 
 -- numbers that reach beyond the area
@@ -306,13 +336,15 @@ number_beyond : (area : AreaState) (size at : ℕ) (width : Width) (number : ℕ
 number_beyond area size at width number many past =
     put_beyond area size at (bytes_in_width width number) many (ap (λ (n : ℕ). nat_le n size) (sym (number_end width at number)) ∙ past)
 
-pub plans_number_refused : (size : ℕ) (words : List ℕ) (at : ℕ) (width : Width) (value : ℕ) (plan : Plan) → plan.writes ≡ [] → nat_le (at + width_bytes width) size ≡ false
+pub plans_number_refused : (size : ℕ) (words : List ℕ) (at : ℕ) (width : Width) (value : ℕ) (plan : Plan) → plan.writes ≡ []
+    → nat_le (at + width_bytes width) size ≡ false
     → PlansOp size words (ops.WriteNum at width value) plan
 unfolding area_next
 plans_number_refused size words at width value plan empty past =
     plans_nothing size words (ops.WriteNum at width value) plan empty (λ area holds. number_beyond area size at width value holds.many past)
 
-pub plans_sum_refused : (size : ℕ) (words : List ℕ) (at : ℕ) (width : Width) (by : ℕ) (plan : Plan) → plan.writes ≡ [] → nat_le (at + width_bytes width) size ≡ false
+pub plans_sum_refused : (size : ℕ) (words : List ℕ) (at : ℕ) (width : Width) (by : ℕ) (plan : Plan) → plan.writes ≡ []
+    → nat_le (at + width_bytes width) size ≡ false
     → PlansOp size words (ops.IncNum at width by) plan
 unfolding area_next
 plans_sum_refused size words at width by plan empty past =

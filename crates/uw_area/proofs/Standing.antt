@@ -1,5 +1,6 @@
 -- What the words of an area stand for: at first, while an operation is committed, and behind it.
-use Rattle.std.proofs.Common.{◌≡◌, ◌≢◌, inl, ℕ, zero, suc, ◌+◌, ◌*◌, ◌<◌, ◌≤◌, Bool, true, false, not, cond, eqb, All, List, Option, length, get_or, set, take, drop, replicate, refl, sym, ap, ◌∙◌, subst, arith}
+use Rattle.std.proofs.Common.{◌≡◌, ◌≢◌, inl, ℕ, zero, suc, ◌+◌, ◌*◌, ◌<◌, ◌≤◌, Bool, true, false, not, cond, eqb, All, List, Option, length, get_or}
+use Rattle.std.proofs.Common.{set, take, drop, replicate, refl, sym, ap, ◌∙◌, subst, arith}
 use Rattle.std.proofs.lemmas.List.{length-set, length-replicate, get_or-set_same, get_or-set_other, get_or-drop}
 use Rattle.std.proofs.lemmas.List.Elements.{All-replicate}
 use Rattle.uw_model.specs.declared.areas.AreaAnswer.{AreaAnswer}
@@ -96,7 +97,8 @@ area_local size = record {
 -- words agree with one area at most
 pub one_area : (size : ℕ) (words : List ℕ) (area other : AreaState) → AgreesWithArea size words area → AgreesWithArea size words other → area ≡ other
 one_area size words area other agrees also =
-    ap (λ (bytes : List ℕ). record { bytes = bytes; updates = area.updates }) bytes_same ∙ ap (λ (n : ℕ). record { bytes = other.bytes; updates = n }) updates_same
+    ap (λ (bytes : List ℕ). record { bytes = bytes; updates = area.updates }) bytes_same
+    ∙ ap (λ (n : ℕ). record { bytes = other.bytes; updates = n }) updates_same
   where
     updates_same : area.updates ≡ other.updates
     updates_same = sym agrees.holds.updates ∙ also.holds.updates
@@ -142,7 +144,8 @@ module _ (size : ℕ) (words : List ℕ) (op : AreaOp) (plan : Plan) (plans : Pl
       → IsRight (area_kind size) words area moment op (area_answer area op) (commit_writes (area_frame size) plan.writes)
   op_right area moment agrees =
       commit_right (area_kind size) (area_local size) words area moment op plan.writes agrees
-      (subst (λ (n : ℕ). FitsRecord (area_frame size) n plan.writes) (sym agrees.len) plans.fits) plans.once (planned_agree area agrees) (plans.few area agrees.holds)
+      (subst (λ (n : ℕ). FitsRecord (area_frame size) n plan.writes) (sym agrees.len) plans.fits) plans.once (planned_agree area agrees)
+      (plans.few area agrees.holds)
 
   -- all of its writes were made
   pub op_agrees : (now : List ℕ) (told left : Option (List ℕ)) → AllMade (commit_writes (area_frame size) plan.writes) words now told left → (area : AreaState)
@@ -170,7 +173,8 @@ module _ (size : ℕ) (words : List ℕ) (op : AreaOp) (plan : Plan) (plans : Pl
         → StandsFor (area_kind size) now (cond whole (area_next area op) area)
     op_broken area agrees whole is =
         subst (λ (b : Bool). StandsFor (area_kind size) now (cond b (area_next area op) area)) (sym is)
-        (subst (λ (l : List ℕ). StandsFor (area_kind size) l (cond (has_opened (area_frame size) (take some.count todo)) (area_next area op) area)) (sym some.words)
+        (subst (λ (l : List ℕ). StandsFor (area_kind size) l (cond (has_opened (area_frame size) (take some.count todo)) (area_next area op) area))
+        (sym some.words)
         (right_stand (area_kind size) (area_local size) words area 0 op (area_answer area op) todo agrees (op_right area 0 agrees) some.count))
 
 -- ---- an operation that was made
@@ -190,7 +194,8 @@ module _ (before now : AreaView) (op : AreaOp) (plan : Plan) (same : now.size �
   right_now : (area : AreaState) (moment : ℕ) → AgreesWithArea before.size before.words area
       → IsRight (area_kind before.size) before.words area moment op (area_answer area op) (todo_of now)
   right_now area moment agrees =
-      subst (IsRight (area_kind before.size) before.words area moment op (area_answer area op)) (sym todo_is) (op_right before.size before.words op plan plans area moment agrees)
+      subst (IsRight (area_kind before.size) before.words area moment op (area_answer area op)) (sym todo_is)
+      (op_right before.size before.words op plan plans area moment agrees)
 
   pub operated_all : AllMade (commit_writes (area_frame before.size) plan.writes) before.words now.words told left → (answer : AreaAnswer)
       → ((area : AreaState) → HoldsArea (region before.words) before.size area → answer ≡ area_answer area op)
@@ -214,7 +219,8 @@ module _ (before now : AreaView) (op : AreaOp) (plan : Plan) (same : now.size �
         same = same;
         right = right_now;
         writes =
-            subst (λ (l : List WordWrite). (made : SomeMade l before.words now.words told left) × (whole ≡ has_opened (area_frame before.size) (take made.count l)))
+            subst (λ (l : List WordWrite). (made : SomeMade l before.words now.words told left) × (whole ≡ has_opened (area_frame before.size)
+            (take made.count l)))
             (sym todo_is) (some, is);
         answer = λ area moment agrees. tt;
         stands = λ area moment agrees. op_broken before.size before.words op plan plans now.words told left some area agrees whole is;

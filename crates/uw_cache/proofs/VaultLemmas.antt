@@ -29,8 +29,8 @@ use Rattle.uw_cache.specs.Vaults.{IsVault, IsVaultCall, VaultView}
 use Rattle.uw_cache.specs.declared.vault.Held.{Held}
 
 -- an answer for which no memory was left is one that copies
-pub copied_where : (planned : PlanAnswer) (error : Memory) (told : Result Answer Memory) → told ≡ Err error → ((a : Answer) → planned ≡ plans.Ready a → told ≡ Ok a)
-    → is_copied planned ≡ true
+pub copied_where : (planned : PlanAnswer) (error : Memory) (told : Result Answer Memory) → told ≡ Err error
+    → ((a : Answer) → planned ≡ plans.Ready a → told ≡ Ok a) → is_copied planned ≡ true
 copied_where (plans.Ready a) error told failed ready = absurd (let both : Err error ≡ Ok a = sym failed ∙ ready a refl in let none : ⊥ = cc in none)
 copied_where (plans.ValueOf item) error told failed ready = refl
 copied_where plans.KeyList error told failed ready = refl
@@ -46,7 +46,8 @@ pub record Opened (held : Held) (view : VaultView) : Type 0 where
   pub was : IsVault held.conf held.ram held.over held.blank
   pub is : view_of held ≡ view
 
-pub opened : (held inside : Held) (view : VaultView) → held ≡ inside → view_of inside ≡ view → IsVault inside.conf inside.ram inside.over inside.blank → Opened held view
+pub opened : (held inside : Held) (view : VaultView) → held ≡ inside → view_of inside ≡ view
+    → IsVault inside.conf inside.ram inside.over inside.blank → Opened held view
 opened held inside view same viewed is = record {
   was = subst (λ (h : Held). IsVault h.conf h.ram h.over h.blank) (sym same) is;
   is = ap view_of same ∙ viewed;
@@ -68,8 +69,8 @@ module _ (conf : CacheConf) (is : IsCacheConf conf) where
       subst (IsFrame (frame_of (shape_of conf))) (length-made (repairs (frame_of (shape_of conf)) words) words)
       (local.frame (applied (frame_of (shape_of conf)) words) list stands.agrees)
 
-  pub vault_of : (words : List ℕ) (over blank : Plan) (list : List Entry) → over.room ≡ plan_room conf → blank.writes ≡ [] → StandsFor (cache_kind conf) words list
-      → IsVault conf words over blank
+  pub vault_of : (words : List ℕ) (over blank : Plan) (list : List Entry) → over.room ≡ plan_room conf → blank.writes ≡ []
+      → StandsFor (cache_kind conf) words list → IsVault conf words over blank
   vault_of words over blank list room empty stands =
       record { is = is; len = standing_words words list stands; room = room; empty = empty; list = list; stands = stands }
 
@@ -139,7 +140,8 @@ module _ (held : Held) (view : VaultView) (o : Opened held view) (idle : region 
       some_stand : (list : List Entry) → Agrees conf words list → StandsFor (cache_kind conf) now (cond has_gate (next_state conf list moment call) list)
       some_stand list agrees =
           subst (λ (w : List ℕ). StandsFor (cache_kind conf) w (cond has_gate (next_state conf list moment call) list)) (sym some.words)
-          (right_stand (cache_kind conf) (regions_local conf o.was.is) words list moment call (answer conf list moment call) todo agrees (right list agrees) some.count)
+          (right_stand (cache_kind conf) (regions_local conf o.was.is) words list moment call (answer conf list moment call) todo agrees (right list agrees)
+          some.count)
 
       whole_where : (whole : Bool) → whole ≡ not (eqb (region now frame.gate) 0) → whole ≡ has_gate
       whole_where whole gate =
@@ -160,7 +162,8 @@ module _ (held : Held) (view : VaultView) (o : Opened held view) (idle : region 
         writes = (some, whole_where whole gate);
         answer = λ list agrees. tt;
         stands = λ list agrees.
-            subst (λ (b : Bool). StandsFor (cache_kind conf) now (cond b (next_state conf list moment call) list)) (sym (whole_where whole gate)) (some_stand list agrees);
+            subst (λ (b : Bool). StandsFor (cache_kind conf) now (cond b (next_state conf list moment call) list)) (sym (whole_where whole gate))
+            (some_stand list agrees);
         conf = refl;
         memory = λ none. absurd (let never : ⊥ = cc in never);
       }
@@ -172,7 +175,8 @@ module _ (held : Held) (view : VaultView) (o : Opened held view) (idle : region 
       some_vault over room = vault_of conf o.was.is now over held.blank _ room o.was.empty (some_stand o.was.list idle_agrees)
 
     -- no memory was left for its answer
-    pub unmade : left ≡ told → may_copy call ≡ true → IsVaultCall view (record { conf = held.conf; words = held.ram; plan = plan }) told left moment call no_memory
+    pub unmade : left ≡ told → may_copy call ≡ true
+        → IsVaultCall view (record { conf = held.conf; words = held.ram; plan = plan }) told left moment call no_memory
     unmade kept copies = seen_so words no_memory record {
       right = right;
       writes = (refl, kept);
@@ -185,8 +189,8 @@ module _ (held : Held) (view : VaultView) (o : Opened held view) (idle : region 
 -- ---- a repair
 
 -- after some of it the words stand for the same lists
-pub mended : (conf : CacheConf) (words now : List ℕ) (frame : Frame) → frame ≡ frame_of (shape_of conf) → IsIntact frame now → applied frame now ≡ applied frame words
-    → (list : List Entry) → StandsFor (cache_kind conf) words list → StandsFor (cache_kind conf) now list
+pub mended : (conf : CacheConf) (words now : List ℕ) (frame : Frame) → frame ≡ frame_of (shape_of conf) → IsIntact frame now
+    → applied frame now ≡ applied frame words → (list : List Entry) → StandsFor (cache_kind conf) words list → StandsFor (cache_kind conf) now list
 mended conf words now frame framed intact same list stands = record {
   intact = subst (λ (f : Frame). IsIntact f now) framed intact;
   agrees = subst (λ (w : List ℕ). Agrees conf w list) (sym (subst (λ (f : Frame). applied f now ≡ applied f words) framed same)) stands.agrees;

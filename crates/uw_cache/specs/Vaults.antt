@@ -34,12 +34,8 @@ vault_frame vault = frame_of (shape_of vault.conf)
 abbrev pub vault_writes : VaultView → List WordWrite
 vault_writes vault = commit_writes (vault_frame vault) vault.plan
 
--- the words stand for a list of entries
-abbrev pub VaultStandsFor : VaultView → List Entry → Type 0
-VaultStandsFor vault list = StandsFor (cache_kind vault.conf) vault.words list
-
--- what a vault is at any time: the configuration is within its limits, the words are as many as it says and stand for some list, one overlay has room for the plan of any call, and
--- the other plans nothing
+-- what a vault is at any time: the configuration is within its limits, the words are as many as it says and stand for some
+-- list, one overlay has room for the plan of any call, and the other plans nothing
 pub record IsVault (conf : CacheConf) (words : List ℕ) (over blank : Plan) : Type 0 where
   pub is : IsCacheConf conf
   pub len : length words ≡ words_of conf
@@ -48,8 +44,9 @@ pub record IsVault (conf : CacheConf) (words : List ℕ) (over blank : Plan) : T
   pub list : List Entry
   pub stands : StandsFor (cache_kind conf) words list
 
--- a call led from one vault to another and ended so, whatever was planned before it: its writes are right for the list with which the words agreed, and so many of them were made
--- as the end tells; the answer is the list's, and the words stand for the list behind the call; no memory was left only for an answer that copies
+-- a call led from one vault to another and ended so, whatever was planned before it: its writes are right for each list with
+-- which the words agreed, and so many of them were made as the end tells; the answer is the list's, and the words stand for the
+-- list behind the call; and memory was wanting only for a call that may copy
 pub record IsVaultCall (before now : VaultView) (told left : Option (List ℕ)) (moment : ℕ) (call : Call) (end : CallEnd Answer) : Type 0 where
   pub right : (list : List Entry) → Agrees before.conf before.words list
       → IsRight (cache_kind before.conf) before.words list moment call (answer before.conf list moment call) (vault_writes now)

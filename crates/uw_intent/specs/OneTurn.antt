@@ -41,12 +41,13 @@ IsCommitted frame todo before now told left no_memory = (now ≡ before) × (lef
 abbrev pub world_of : {C A : Type 0} → List ℕ → World C A
 world_of words = record { words = words; lock = dead; history = [] }
 
--- the event by which a call that ended so lets go of the lock, and what that answers: one that finds no memory is given up, as by a death before its first write
+-- the event by which a call that ended so lets go of the lock: one that finds no memory is given up, as by a death before its first write
 abbrev pub last_event : {C A : Type 0} → ℕ → CallEnd A → Event C
 last_event who (given answer) = leaving who
 last_event who (died whole) = dying who
 last_event who no_memory = dying who
 
+-- what that event answers
 abbrev pub last_step : {A : Type 0} → CallEnd A → Step A
 last_step (given answer) = left_with answer
 last_step (died whole) = left_dead whole

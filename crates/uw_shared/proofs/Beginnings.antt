@@ -11,22 +11,23 @@ use Rattle.uw_intent.specs.Standing.{StandsFor}
 use Rattle.uw_intent.proofs.Rights.{agreeing_stand}
 use Rattle.uw_plan.specs.CacheKind.{cache_kind}
 use Rattle.uw_plan.proofs.Agreeing.{regions_local}
-use Rattle.uw_cache.specs.Vaults.{VaultView, vault_frame}
+use Rattle.uw_cache.specs.Vaults.{VaultView}
 use Rattle.uw_area.specs.AreaKind.{area_kind}
 use Rattle.uw_area.specs.AreaViews.{AreaView}
-use Rattle.uw_area.specs.AreaWords.{area_frame}
 use Rattle.uw_area.proofs.Standing.{area_local}
-use Rattle.uw_shared.specs.Beginnings.{BeginsAsArea, BeginsAsCache}
+use Rattle.uw_shared.specs.BeginningSteps.{BeginsAsArea, BeginsAsCache}
 use Rattle.uw_shared.specs.Parts.{Stands, area_reading, cache_reading}
-use Rattle.uw_shared.specs.Regions.{is_closed}
+use Rattle.uw_shared.specs.Regions.{is_area_closed, is_vault_closed}
 use Rattle.uw_shared.proofs.Places.{join_true}
 
 -- ---- caches
 
-cache_stands : (conf : CacheConf) (vault : VaultView) → IsCacheConf conf → BeginsAsCache conf vault → Stands cache_reading vault (record { conf = conf; list = [] })
+cache_stands : (conf : CacheConf) (vault : VaultView) → IsCacheConf conf → BeginsAsCache conf vault
+    → Stands cache_reading vault (record { conf = conf; list = [] })
 cache_stands conf vault is begins = record {
   conf = begins.conf;
-  stands = subst (λ (c : CacheConf). StandsFor (cache_kind c) vault.words []) (sym begins.conf) (agreeing_stand (cache_kind conf) (regions_local conf is) vault.words [] begins.empty);
+  stands = subst (λ (c : CacheConf). StandsFor (cache_kind c) vault.words []) (sym begins.conf)
+      (agreeing_stand (cache_kind conf) (regions_local conf is) vault.words [] begins.empty);
 }
 
 pub caches_stand : (confs : List CacheConf) (vaults : List VaultView) → AllByRecursion IsCacheConf confs → AllZip BeginsAsCache confs vaults
@@ -44,19 +45,20 @@ caches_within (conf ∷ confs) [] is begin = absurd begin
 caches_within (conf ∷ confs) (vault ∷ vaults) is begin = (subst IsCacheConf (sym begin.0.conf) is.0, caches_within confs vaults is.1 begin.1)
 
 pub caches_closed : (confs : List CacheConf) (vaults : List VaultView) → AllZip BeginsAsCache confs vaults
-    → list_all (λ (vault : VaultView). is_closed (vault_frame vault) vault.words) vaults ≡ true
+    → list_all is_vault_closed vaults ≡ true
 caches_closed [] [] begin = refl
 caches_closed [] (vault ∷ vaults) begin = absurd begin
 caches_closed (conf ∷ confs) [] begin = absurd begin
 caches_closed (conf ∷ confs) (vault ∷ vaults) begin =
-    join_true (is_closed (vault_frame vault) vault.words) (list_all (λ (v : VaultView). is_closed (vault_frame v) v.words) vaults)
+    join_true (is_vault_closed vault) (list_all is_vault_closed vaults)
     (eq-eqb (region vault.words 10) 0 begin.0.empty.closed) (caches_closed confs vaults begin.1)
 
 -- ---- areas
 
 area_stands : (size : ℕ) (area : AreaView) → BeginsAsArea size area → Stands area_reading area (blank_area size)
 area_stands size area begins =
-    let stands : StandsFor (area_kind size) area.words (blank_area size) = agreeing_stand (area_kind size) (area_local size) area.words (blank_area size) begins.blank in
+    let stands : StandsFor (area_kind size) area.words (blank_area size) =
+    agreeing_stand (area_kind size) (area_local size) area.words (blank_area size) begins.blank in
     record {
       conf = begins.size ∙ sym begins.blank.holds.many;
       stands = subst (λ (n : ℕ). StandsFor (area_kind n) area.words (blank_area size)) (sym begins.size) stands;
@@ -69,10 +71,10 @@ areas_stand (size ∷ sizes) [] begin = absurd begin
 areas_stand (size ∷ sizes) (area ∷ areas) begin = (area_stands size area begin.0, areas_stand sizes areas begin.1)
 
 pub areas_closed : (sizes : List ℕ) (areas : List AreaView) → AllZip BeginsAsArea sizes areas
-    → list_all (λ (area : AreaView). is_closed (area_frame area.size) area.words) areas ≡ true
+    → list_all is_area_closed areas ≡ true
 areas_closed [] [] begin = refl
 areas_closed [] (area ∷ areas) begin = absurd begin
 areas_closed (size ∷ sizes) [] begin = absurd begin
 areas_closed (size ∷ sizes) (area ∷ areas) begin =
-    join_true (is_closed (area_frame area.size) area.words) (list_all (λ (a : AreaView). is_closed (area_frame a.size) a.words) areas)
+    join_true (is_area_closed area) (list_all is_area_closed areas)
     (eq-eqb (region area.words 10) 0 begin.0.blank.closed) (areas_closed sizes areas begin.1)

@@ -1,6 +1,8 @@
 -- What asks do to the regions of a desk: each takes one turn of one region (own rule).
 use Rattle.std.specs.Prelude.{◌≡◌, ℕ, ◌+◌, true, false, List, [], ◌∷◌, ◌++◌, refl, slice_get, slice_set, Option, Some, is_some, if◌then◌else◌}
 use Rattle.std.proofs.Common.{add_assoc, ap, subst, sym, zero-add, ◌∙◌}
+use Rattle.uw_model.specs.declared.areas.AreaAnswer.{AreaAnswer}
+use Rattle.uw_model.specs.declared.calls.Answer.{Answer}
 use Rattle.uw_model.specs.declared.asks.Ask.{Ask}
 use Rattle.uw_model.specs.declared.asks.AskAnswer.{AskAnswer}
 use Rattle.uw_model.specs.declared.asks.Ask.TheVariants as asks
@@ -25,6 +27,14 @@ EndsAsCall kind end (calls.died true) = (answer : AskAnswer) × (end ≡ ends.di
 EndsAsCall kind end (calls.died false) = end ≡ ends.died_absent
 EndsAsCall kind end calls.no_memory = end ≡ ends.no_memory
 
+-- the answers of a cache and of an area, as those of asks
+abbrev pub of_cache : Answer → AskAnswer
+of_cache answer = ask_answers.Cache answer
+
+-- the answer of an area, as the answer of an ask
+abbrev pub of_area : AreaAnswer → AskAnswer
+of_area answer = ask_answers.Area answer
+
 -- a call on words that stand for a state took one turn, with just so many writes, as some life lets them through
 pub record TurnRuns {S C A : Type 0} (k : Kind S C A) (s : S) (made : Called C) (end : CallEnd A) (before : List ℕ) (writes : ℕ) (now : List ℕ) : Type 0 where
   pub told : Option (List ℕ)
@@ -46,15 +56,15 @@ pub record TurnAt {V P F S C A : Type 0} (read : Reading V P F S C A) (answer : 
   pub ends : EndsAsCall answer end ended
   pub runs : TurnRuns (read.kind (read.conf region)) (read.state form) made ended (read.words region) writes (read.words after)
 
--- an ask of regions that stand for lists: it takes a turn of the region of its cache or area, in which this desk is worker 0, for an area at moment 0; no ask of
--- the spool is one
+-- an ask of regions that stand for lists: it takes a turn of the region of its cache or area, in which this desk is worker 0, for an
+-- area at moment 0; no ask of the spool is one
 abbrev pub AskRunsBy : Lists → Regions → ℕ → Ask → AskEnd → ℕ → Regions → Type 0
 AskRunsBy lists before moment (asks.Cache cache call) end writes now =
     (caches : List VaultView) × (now ≡ record before { caches = caches })
-    × TurnAt cache_reading (λ answer. ask_answers.Cache answer) lists.caches before.caches cache (record { who = 0; moment = moment; call = call }) end writes caches
+    × TurnAt cache_reading of_cache lists.caches before.caches cache (record { who = 0; moment = moment; call = call }) end writes caches
 AskRunsBy lists before moment (asks.Area area op) end writes now =
     (areas : List AreaView) × (now ≡ record before { areas = areas })
-    × TurnAt area_reading (λ answer. ask_answers.Area answer) lists.areas before.areas area (record { who = 0; moment = 0; call = op }) end writes areas
+    × TurnAt area_reading of_area lists.areas before.areas area (record { who = 0; moment = 0; call = op }) end writes areas
 AskRunsBy lists before moment (asks.Spool vars body) end writes now = ⊥
 
 -- the same of an asking
@@ -71,8 +81,8 @@ AsksRun lists before [] writes now = (now ≡ before) × (writes ≡ 0)
 AsksRun lists before (a ∷ asked) writes now =
     (mid : Regions) × (first : ℕ) × (more : ℕ) × (writes ≡ first + more) × AskRuns lists before a first mid × AsksRun (lists_behind lists a) mid asked more now
 
--- from regions that stand for lists asks led to others: they lead the lists on to those for which the regions stand then, and took the regions there with just so
--- many word writes
+-- from regions that stand for lists asks led to others: they lead the lists on to those for which the regions stand then, and took the
+-- regions there with just so many word writes
 pub record LeadsOn (lists : Lists) (before : Regions) (asked : List Asking) (writes : ℕ) (now : Regions) : Type 0 where
   pub after : Lists
   pub leads : LeadsLists lists asked after
@@ -92,7 +102,8 @@ AsksRun-append : (lists mid : Lists) (a b c : Regions) (early late : List Asking
     → LeadsLists lists early mid → AsksRun lists a early first b → AsksRun mid b late more c → AsksRun lists a (early ++ late) (first + more) c
 AsksRun-append lists mid a b c [] late first more led ran on =
     let from_lists : AsksRun lists b late more c = let Running : Lists → Type 0 = λ from. AsksRun from b late more c in subst Running led on in
-    let from_regions : AsksRun lists a late more c = let Running : Regions → Type 0 = λ from. AsksRun lists from late more c in subst Running ran.0 from_lists in
+    let from_regions : AsksRun lists a late more c =
+    let Running : Regions → Type 0 = λ from. AsksRun lists from late more c in subst Running ran.0 from_lists in
     let Running : ℕ → Type 0 = λ writes. AsksRun lists a late writes c in
     subst Running (sym (ap (λ (n : ℕ). n + more) ran.1 ∙ zero-add more)) from_regions
 AsksRun-append lists mid a b c (x ∷ early) late first more led ran on = (

@@ -1,4 +1,4 @@
 pub mod Parts
 pub mod Regions
 pub mod AskRuns
-pub mod Beginnings
+pub mod BeginningSteps

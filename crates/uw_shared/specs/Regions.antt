@@ -7,7 +7,6 @@ use Rattle.uw_model.specs.Asks.{DeskParts}
 use Rattle.uw_model.specs.Entries.{IsCacheConf}
 use Rattle.uw_model.specs.Lists.{Lists, parts_of}
 use Rattle.uw_words.specs.Plans.{region}
-use Rattle.uw_intent.specs.declared.frame.Frame.{Frame}
 use Rattle.uw_cache.specs.Vaults.{VaultView, vault_frame}
 use Rattle.uw_area.specs.AreaWords.{area_frame}
 use Rattle.uw_area.specs.AreaViews.{AreaView}
@@ -33,15 +32,17 @@ RegionsStandFor-parts regions lists stand =
     ap₂ (λ (caches areas : ℕ). let parts : DeskParts = record { caches = caches; areas = areas } in parts)
     (AllZip-long (Stands cache_reading) regions.caches lists.caches stand.caches) (AllZip-long (Stands area_reading) regions.areas lists.areas stand.areas)
 
--- the gate is closed: no repair is pending
-abbrev pub is_closed : Frame → List ℕ → Bool
-is_closed frame words = region words frame.gate == 0
+-- the gate of a vault is closed: no repair is pending
+abbrev pub is_vault_closed : VaultView → Bool
+is_vault_closed vault = region vault.words (vault_frame vault).gate == 0
+
+-- the same of an area
+abbrev pub is_area_closed : AreaView → Bool
+is_area_closed area = region area.words (area_frame area.size).gate == 0
 
 -- no region has an open gate
 abbrev pub is_settled : Regions → Bool
-is_settled regions =
-    list_all (λ (vault : VaultView). is_closed (vault_frame vault) vault.words) regions.caches
-    && list_all (λ (area : AreaView). is_closed (area_frame area.size) area.words) regions.areas
+is_settled regions = list_all is_vault_closed regions.caches && list_all is_area_closed regions.areas
 
 -- what the regions of a desk are at any time: the configurations are within their limits, and the words stand for some lists
 pub record AreRegions (regions : Regions) : Type 0 where

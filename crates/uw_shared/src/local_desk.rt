@@ -1,16 +1,12 @@
 // The desk of one thread, over regions that it owns.
-ghost use Rattle.std.specs.Prelude.{◌≡◌, ◌<◌, ◌^◌, ℕ, List, [], length, take, true, IfOk};
+ghost use Rattle.std.specs.Prelude.{◌≡◌, ◌<◌, ◌^◌, length, true, IfOk};
 ghost use Rattle.std.specs.List.{AllByRecursion, AllZip};
 ghost use Rattle.uw_model.specs.Entries.{IsCacheConf};
 ghost use Rattle.uw_model.specs.AreaOps.{IsAreaSize};
-ghost use Rattle.uw_model.specs.Areas.{blank_areas};
-ghost use Rattle.uw_model.specs.Asks.{Asking};
-ghost use Rattle.uw_model.specs.Caches.{empty_caches};
-ghost use Rattle.uw_model.specs.Lists.{LeadsLists, Lists, empty_lists, parts_of};
-ghost use Rattle.uw_shared.specs.Parts.{cache_reading, area_reading};
-ghost use Rattle.uw_shared.specs.Regions.{Regions, RegionsStandFor, RegionsStandFor-parts, is_settled, parts_of_regions};
+ghost use Rattle.uw_model.specs.Lists.{empty_lists};
+ghost use Rattle.uw_shared.specs.Regions.{RegionsStandFor, RegionsStandFor-parts, is_settled, parts_of_regions};
 ghost use Rattle.uw_shared.specs.AskRuns.{LeadsOn, LeadsRegions, LeadsRegions-append, LeadsRegions-none};
-ghost use Rattle.uw_shared.specs.Beginnings.{BeginsAsArea, BeginsAsCache, desk_result};
+ghost use Rattle.uw_shared.specs.BeginningSteps.{BeginsAsArea, BeginsAsCache, desk_result};
 
 use std::alloc::Global;
 use std::marker::Model;
@@ -68,7 +64,7 @@ fn blank_regions(alloc: Global, sizes: &[u64]) -> Result<Vec<Area>, Memory>
 
 impl LocalDesk {
     /// A region without an entry for each configuration, and one of zero bytes for each size in bytes. Takes all memory
-    /// that their writes need.
+    /// that their writes need: later calls take some only for an answer that copies bytes.
     pub fn new(
         alloc: Global,
         caches: &CacheConfList,

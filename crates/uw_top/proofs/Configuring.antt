@@ -1,5 +1,5 @@
 -- A configuration from the text that was read.
-use Rattle.std.proofs.Common.{◌≡◌, ℕ, ◌+◌, ◌<◌, ◌≤◌, List, [], ◌∷◌, length, take, Option, None, Some, Result, Ok, Err, refl, sym, subst, inl, inr, arith}
+use Rattle.std.proofs.Common.{◌≡◌, ℕ, ◌+◌, ◌<◌, ◌≤◌, List, [], length, take, Option, None, Some, Result, Ok, Err, refl, sym, subst, inl, inr, arith}
 use Rattle.std.proofs.Math.Seq.{take-length}
 use Rattle.std.proofs.lemmas.List.{length-take-le}
 use Rattle.uw_outside.specs.Streams.{Takes}
@@ -75,8 +75,7 @@ out_of_memory command s same end fault conf make untouched taken refused kept = 
         subst (λ (f : Option RunFault). IsNotBegun s.refused s.refused_now said s.conf f) (sym fault) (([], taken, omega arith), omega (arith, refused), kept)
 
     by_command : (of : Option Command) → Does of s same end
-    by_command (Some (commands.Pipe [])) = inr (not_begun IsSaid, untouched)
-    by_command (Some (commands.Pipe (death ∷ deaths))) = (inr fault, conf, make, untouched)
+    by_command (Some (commands.Pipe die)) = inr (not_begun IsSaid, untouched)
     by_command (Some commands.Spool) = inr (not_begun IsSaid, untouched)
     by_command (Some (commands.Load first count)) = inr (not_begun IsSaidWithACache, untouched)
     by_command (Some commands.Steps) = (inr fault, conf, make, untouched)

@@ -1,8 +1,5 @@
 -- A run over the desk of one thread is one over regions and the lists for which they stand.
-use Rattle.std.proofs.Common.{◌≡◌, ℕ, true, List, Option, None, Some, refl, sym, subst}
-use Rattle.uw_outside.specs.Streams.{Inflow, Outflow}
-use Rattle.uw_keeper.specs.Keeping.{Keeping}
-use Rattle.uw_model.specs.Asks.{Asking}
+use Rattle.std.proofs.Common.{◌≡◌, ℕ, Bool, true, false, not, List, Option, None, Some, is_some, refl, sym, subst}
 use Rattle.uw_session.specs.Exchange.{Site}
 use Rattle.uw_ends.specs.declared.ends.Brief.{Brief}
 use Rattle.uw_ends.specs.declared.ends.RunFault.{RunFault}
@@ -26,6 +23,20 @@ listed_on a b asked writes listed led held =
 abbrev pub KeepsAs : Option RunFault → (old new : Option Regions) → Regions → Type 0
 KeepsAs None old new last = new ≡ Some last
 KeepsAs (Some fault) old new last = new ≡ old
+
+-- a test of the fault tells which of both desks is kept
+pub keeps_by : (fault : Option RunFault) (old new : Option Regions) (last : Regions) (none : Bool) → is_some fault ≡ not none
+    → (none ≡ true → new ≡ Some last) → (none ≡ false → new ≡ old) → KeepsAs fault old new last
+keeps_by None old new last none test made stays = made (flip none test)
+  where
+    flip : (none : Bool) → false ≡ not none → none ≡ true
+    flip true test = refl
+    flip false test = test
+keeps_by (Some fault) old new last none test made stays = stays (flip none test)
+  where
+    flip : (none : Bool) → true ≡ not none → none ≡ false
+    flip true test = test
+    flip false test = refl
 
 keeps_desk : (fault : Option RunFault) (old new : Option Regions) (last : Regions) (listed : ListedRegions) → AreListed last listed → KeepsAs fault old new last
     → KeepsDesk fault old new listed

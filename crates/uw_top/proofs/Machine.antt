@@ -1,18 +1,19 @@
 -- The turns of a run, one after the other.
-use Rattle.std.proofs.Common.{◌≡◌, ℕ, ◌+◌, ◌<◌, ◌≤◌, Bool, false, true, List, [], ◌∷◌, ◌++◌, length, Option, None, Some, refl, sym, ap, inl, inr, lit<, ◌∙◌, arith, append_assoc, subst}
+use Rattle.std.proofs.Common.{◌≡◌, ℕ, ◌+◌, ◌<◌, ◌≤◌, Bool, false, true, List, [], ◌∷◌, ◌++◌, length, Option, None, Some, refl, sym, ap, inl, inr, ◌∙◌, arith, subst}
 use Rattle.std.proofs.lemmas.List.{append-nil, length-append, map-append}
 use Rattle.std.proofs.lemmas.Grind.{flat_map-append}
 use Rattle.uw_outside.specs.Faults.{HasCause, Rose}
 use Rattle.uw_outside.proofs.Causes.{HasCause-none, HasCause-then}
 use Rattle.uw_outside.specs.Lives.{Spends}
-use Rattle.uw_outside.specs.Streams.{Inflow, Outflow, Takes}
+use Rattle.uw_outside.specs.Streams.{Takes}
+use Rattle.uw_outside.proofs.Lives.{Spends-none}
 use Rattle.uw_outside.proofs.Streams.{Takes-none, Takes-append, Gives-none, Gives-append}
 use Rattle.uw_model.specs.Asks.{Asking}
 use Rattle.uw_ends.specs.declared.ends.Brief.{Brief}
 use Rattle.uw_ends.specs.declared.ends.RunFault.{RunFault}
 use Rattle.uw_ends.specs.declared.ends.RunFault.TheVariants as faults
 use Rattle.uw_session.specs.Exchange.{Site, exchange_bytes}
-use Rattle.uw_top.specs.Pipe.{EndsBy, Ending, IsAtMost, IsBelowMost, IsTurn, LeavesAllowed, TurnsLead, PipeRun, Turn, asks_of_turn, brief_of, bytes_of, frame_of_end, frames_of, has_failed_to_read, has_failed_to_write, moments_of, most_packets, unbounded}
+use Rattle.uw_top.specs.Pipe.{EndsBy, Ending, IsBelowMost, IsTurn, LeavesAllowed, TurnsLead, PipeRun, Turn, asks_of_turn, brief_of, bytes_of, frame_of_end, frames_of, has_failed_to_read, has_failed_to_write, moments_of, most_packets}
 use Rattle.uw_top.specs.PipeSteps.{SoFar, Goes, IsLast, LooksFurther}
 
 -- a count that rose since a moment rose since every earlier one
@@ -222,13 +223,13 @@ run_is_full gave leads start held allowed more site told left middle now taken t
 -- a run that found no memory before its first packet
 pub nothing_done : {S Clk : Type 0} (gave : Clk → Clk → List ℕ → Type 0) (gave_none : (clock : Clk) → gave clock clock [])
     (leads : S → S → List Asking → ℕ → Type 0) (start : S) (site : Site) (left taken : Option (List ℕ)) (clock : Clk) (ended : Bool) (f0 s0 : ℕ)
-    → leads start start [] 0 → PipeRun leads start start unbounded site (record { before = left; now = left; ended = ended; faults_before = f0; faults_now = f0 })
+    (allowed : Option (List ℕ)) → leads start start [] 0 → PipeRun leads start start allowed site (record { before = left; now = left; ended = ended; faults_before = f0; faults_now = f0 })
     (record { before = taken; now = taken; faults_before = s0; faults_now = s0 }) (gave clock clock) [] (Some faults.Memory)
-nothing_done gave gave_none leads start site left taken clock ended f0 s0 none = record {
+nothing_done gave gave_none leads start site left taken clock ended f0 s0 allowed none = record {
   turns = [];
   behind = start;
-  left = unbounded;
-  still = unbounded;
+  left = allowed;
+  still = allowed;
   rest = [];
   part = [];
   late = [];
@@ -240,5 +241,5 @@ nothing_done gave gave_none leads start site left taken clock ended f0 s0 none =
   briefs = refl;
   reads = HasCause-none f0 f0 refl;
   writes = HasCause-none s0 s0 refl;
-  ending = inl (refl, refl, refl, refl, (none, refl));
+  ending = inl (refl, refl, refl, refl, (none, Spends-none allowed));
 }

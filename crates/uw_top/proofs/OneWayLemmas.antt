@@ -1,5 +1,5 @@
 -- Over plain lists, and rows that a keeper tells, the asks and the replies of a run are a function of its packets.
-use Rattle.std.proofs.Common.{◌≡◌, refl, sym, ap, ap₂, ◌∙◌, subst, ℕ, ◌+◌, ◌<◌, ◌≤◌, List, [], ◌∷◌, ◌++◌, map, Option, None, Some, IsSome, cond, ltb, arith}
+use Rattle.std.proofs.Common.{◌≡◌, refl, sym, ap, ap₂, ◌∙◌, subst, ℕ, ◌+◌, List, [], ◌∷◌, ◌++◌, map, Option, None, Some, IsSome, cond, ltb, arith}
 use Rattle.std.proofs.lemmas.Bool.{le-ltb, lt-ltb}
 use Rattle.std.specs.List.{AllByRecursion}
 use Rattle.uw_model.specs.declared.asks.Asked.{Asked}
@@ -9,7 +9,7 @@ use Rattle.uw_model.specs.declared.asks.AskAnswer.{AskAnswer}
 use Rattle.uw_model.specs.declared.asks.AskAnswer.TheVariants as ask_answers
 use Rattle.uw_model.specs.declared.asks.SpoolAnswer.{SpoolAnswer}
 use Rattle.uw_model.specs.declared.asks.SpoolAnswer.TheVariants as spools
-use Rattle.uw_model.specs.Asks.{Asking, answered, answered_at, of_desk}
+use Rattle.uw_model.specs.Asks.{Asking, answered_at, of_desk}
 use Rattle.uw_model.specs.Lists.{Lists, LeadsLists, answer_of, lists_after}
 use Rattle.uw_keeper.specs.declared.keeper.Row.{Row}
 use Rattle.uw_keeper.specs.Keeping.{Keeping, most_number}

@@ -1,22 +1,22 @@
 -- The rounds of the command `spool`, one after the other.
-use Rattle.std.proofs.Common.{◌≡◌, ℕ, suc, ◌+◌, ◌<◌, ◌≤◌, List, [], ◌∷◌, ◌++◌, length, take, Option, None, Some, Result, Ok, Err, refl, sym, ap, ◌∙◌, inl, inr, arith, append_assoc, subst}
+use Rattle.std.proofs.Common.{◌≡◌, ℕ, ◌+◌, ◌<◌, ◌≤◌, List, [], ◌∷◌, ◌++◌, length, Option, None, Some, Result, Ok, Err, refl, sym, ap, ◌∙◌, inl, inr, arith, append_assoc, subst}
 use Rattle.std.proofs.lemmas.List.{append-nil, length-append}
 use Rattle.uw_outside.specs.Faults.{HasCause}
 use Rattle.uw_outside.proofs.Causes.{HasCause-none, HasCause-then}
-use Rattle.uw_outside.specs.Streams.{Gives, Outflow}
+use Rattle.uw_outside.specs.Streams.{Outflow}
 use Rattle.uw_outside.proofs.Streams.{Gives-append, Gives-none}
 use Rattle.uw_keeper.specs.Keeping.{Keeping}
 use Rattle.uw_model.specs.Asks.{Asking}
 use Rattle.uw_spool.specs.declared.report.RoundFault.{RoundFault}
 use Rattle.uw_spool.specs.declared.report.RoundFault.TheVariants as rounds
 use Rattle.uw_spool.specs.declared.report.TaskLine.{TaskLine}
-use Rattle.uw_spool.specs.Rounds.{Round, Rounds}
+use Rattle.uw_spool.specs.Rounds.{Rounds}
 use Rattle.uw_conf.specs.declared.conf.Conf.{Conf}
 use Rattle.uw_ends.specs.declared.ends.RunFault.{RunFault}
 use Rattle.uw_ends.specs.declared.ends.RunFault.TheVariants as faults
 use Rattle.uw_session.specs.Exchange.{IsSiteOf, Site}
 use Rattle.uw_top.specs.Pipe.{has_failed_to_write}
-use Rattle.uw_top.specs.Spool.{EndsRounds, RoundsLead, SpoolEndsBy, SpoolRun, round_of, round_text, rounds_text, task_rules_of, undying}
+use Rattle.uw_top.specs.Spool.{EndsRounds, RoundsLead, SpoolRun, round_of, round_text, rounds_text, task_rules_of, undying}
 use Rattle.uw_top.specs.SpoolSteps.{RoundsRun, RoundsSoFar, RunsRound}
 use Rattle.uw_top.proofs.Machine.{rose_since}
 

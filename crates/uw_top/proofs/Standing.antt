@@ -1,6 +1,5 @@
 -- A run over a desk is one over what the desk stands for.
-use Rattle.std.proofs.Common.{◌≡◌, ℕ, List, [], ◌∷◌, ◌++◌, Option, None, Some, Bool, true, false, refl, sym, ap, ap₂, subst, inl, inr}
-use Rattle.uw_outside.specs.Lives.{Spends}
+use Rattle.std.proofs.Common.{◌≡◌, ℕ, List, [], ◌∷◌, ◌++◌, Option, None, Some, true, false, refl, sym, ap, ap₂, subst, inl, inr}
 use Rattle.uw_outside.specs.Streams.{Inflow, Outflow}
 use Rattle.uw_keeper.specs.Keeping.{Keeping}
 use Rattle.uw_model.specs.declared.asks.Asked.{Asked}
@@ -13,7 +12,7 @@ use Rattle.uw_ends.specs.declared.ends.Brief.{Brief}
 use Rattle.uw_ends.specs.declared.ends.RunFault.{RunFault}
 use Rattle.uw_ends.specs.declared.ends.RunFault.TheVariants as faults
 use Rattle.uw_session.specs.Exchange.{Site}
-use Rattle.uw_top.specs.Pipe.{Ending, EndsBy, HasAskedNothing, IsCutTurn, IsStopped, LeavesAllowed, PipeRun, Turn, TurnsLead, asks_of_turn, both_lead}
+use Rattle.uw_top.specs.Pipe.{Ending, EndsBy, PipeRun, Turn, TurnsLead, asks_of_turn, both_lead}
 
 -- asks that lead a desk on lead on what it stands for
 abbrev pub StandsOn : {D T : Type 0} → (D → D → List Asking → ℕ → Type 0) → (T → T → List Asking → ℕ → Type 0) → (D → T → Type 0) → Type 0

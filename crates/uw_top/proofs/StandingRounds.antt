@@ -1,5 +1,5 @@
 -- Rounds over a desk that stands for lists are rounds over the lists.
-use Rattle.std.proofs.Common.{◌≡◌, ℕ, ◌+◌, List, [], ◌∷◌, ◌++◌, Option, None, Some, Result, Ok, Err, refl, sym, ap, subst, inl, inr, Bool, true, false}
+use Rattle.std.proofs.Common.{ℕ, ◌+◌, List, [], ◌∷◌, Option, None, Some, Result, Ok, Err, refl, sym, subst, inl, inr}
 use Rattle.uw_outside.specs.Streams.{Outflow}
 use Rattle.uw_keeper.specs.declared.keeper.Row.{Row}
 use Rattle.uw_keeper.specs.Keeping.{Keeping}

@@ -1,13 +1,12 @@
 -- A turn of `pipe`: why it was the last, or what it served, or the death in it.
-use Rattle.std.proofs.Common.{◌≡◌, ℕ, ◌+◌, List, [], ◌∷◌, ◌++◌, length, take, drop, Option, None, Some, option_map, Ok, Err, refl, ap, ap₂, sym, subst, arith, inl, inr, lit<, Bool, true, false, ◌∙◌}
+use Rattle.std.proofs.Common.{◌≡◌, ℕ, ◌+◌, List, [], ◌∷◌, ◌++◌, take, drop, Option, None, Some, option_map, Ok, Err, refl, ap, ap₂, sym, subst, arith, inl, inr, lit<, Bool, true, false, ◌∙◌}
 use Rattle.std.proofs.lemmas.Bool.{eqb-true}
-use Rattle.std.proofs.lemmas.List.{append-nil}
 use Rattle.uw_outside.specs.Faults.{HasCause, Rose}
 use Rattle.uw_outside.specs.Lives.{Spends, is_spent}
 use Rattle.uw_outside.specs.Streams.{Inflow, Outflow, Takes, Gives}
 use Rattle.uw_outside.proofs.Streams.{Takes-none, Gives-append, Gives-none}
 use Rattle.uw_outside.proofs.Lives.{Spends-none}
-use Rattle.uw_model.specs.Asks.{Asking, Led, answered_at, died_absent, died_whole}
+use Rattle.uw_model.specs.Asks.{Asking, answered_at, died_absent, died_whole}
 use Rattle.uw_chain.specs.declared.faults.ChainEnd.TheVariants as chains
 use Rattle.uw_chain.specs.Runs.{Stops}
 use Rattle.uw_model.specs.declared.asks.Asked.{Asked}
@@ -23,8 +22,8 @@ use Rattle.uw_session.specs.Exchange.{Exchange, Site, course_of_site, exchange_b
 use Rattle.uw_session.specs.Serving.{Breaks, Flow, Serves, exchange_of, is_failed_write}
 use Rattle.uw_top.specs.declared.pipe.Stop.{Stop}
 use Rattle.uw_top.specs.declared.pipe.Stop.TheVariants as stops
-use Rattle.uw_top.specs.Pipe.{EndsBy, IsTurn, LeavesAllowed, Turn, bad_packet_of, brief_of, died_in, is_whole_death, replied_by}
-use Rattle.uw_top.specs.PipeSteps.{Goes, IsLast, TellsDeath, Turns, death_frame, stop_of_serving}
+use Rattle.uw_top.specs.Pipe.{EndsBy, IsTurn, LeavesAllowed, bad_packet_of, died_in, is_whole_death, replied_by}
+use Rattle.uw_top.specs.PipeSteps.{Goes, IsLast, TellsDeath, death_frame, stop_of_serving}
 
 -- one turn over a source, a sink and a desk, and what the life allowed before it and behind it
 abbrev pub flow_of : Inflow → Outflow → (List Asking → ℕ → Type 0) → (allowed still : Option (List ℕ)) → Flow

@@ -1,5 +1,5 @@
 -- A command over its configuration.
-use Rattle.std.specs.Prelude.{◌≡◌, ℕ, ◌+◌, ◌<◌, ◌≤◌, ◌⊎◌, Bool, true, false, List, [], length, Option, None, Some, Result, Ok, Err}
+use Rattle.std.specs.Prelude.{◌≡◌, ℕ, ◌+◌, ◌<◌, ◌≤◌, ◌⊎◌, List, [], length, Option, None, Some, Result, Ok, Err}
 use Rattle.uw_outside.specs.Faults.{Rose}
 use Rattle.uw_outside.specs.Streams.{Takes}
 use Rattle.uw_outside.specs.Streams.{Inflow, Outflow}

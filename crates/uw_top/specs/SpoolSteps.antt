@@ -1,5 +1,5 @@
 -- The steps of the command `spool`.
-use Rattle.std.specs.Prelude.{◌≡◌, ℕ, ◌<◌, List, [], ◌++◌, length, take, Option, None, Some, Result, Ok, Err}
+use Rattle.std.specs.Prelude.{◌≡◌, ℕ, ◌<◌, List, ◌++◌, length, take, Option, None, Some, Result, Ok}
 use Rattle.uw_outside.specs.Faults.{HasCause, Rose}
 use Rattle.uw_outside.specs.Streams.{Outflow, Gives}
 use Rattle.uw_keeper.specs.Keeping.{Keeping}

@@ -20,7 +20,8 @@ loop-k-preserved c =
       | else-k-eq0 w ↦ w.from-is
     ] in
     c.in_ok-extend_from_slice.ensures.items
-    ∙ ap (λ (l : List ℕ). c.loop-k.bytes.items ++ l) (ap (λ (w : List ℕ). take (8 - c.if-k-eq0.from) (drop c.if-k-eq0.from w)) word ∙ take_rest (to_le_bytes w64 (reader (at + c.loop-k.k))) c.if-k-eq0.from)
+    ∙ ap (λ (l : List ℕ). c.loop-k.bytes.items ++ l) (ap (λ (w : List ℕ). take (8 - c.if-k-eq0.from) (drop c.if-k-eq0.from w)) word
+    ∙ take_rest (to_le_bytes w64 (reader (at + c.loop-k.k))) c.if-k-eq0.from)
     ∙ read_next reader at c.loop-k.k (c.args.at % 8) c.if-k-eq0.from c.loop-k.bytes.items (omega arith) first later c.loop-k.invariant
 
 pub returns : goal.returns

@@ -3,7 +3,7 @@ use Rattle.std.proofs.Common.{get_or}
 use Rattle.std.proofs.lemmas.List.{take_more}
 use Rattle.std.proofs.lemmas.Slice.Zip.{all_zipped_more}
 use Rattle.std.proofs.Common.{take}
-use Rattle.uw_shared.specs.Beginnings.{BeginsAsArea}
+use Rattle.uw_shared.specs.BeginningSteps.{BeginsAsArea}
 use Rattle.uw_shared.proofs.local_desk.blank_regions.Goals as goal
 
 pub loop-size-preserved : goal.loop-size-preserved

@@ -1,6 +1,6 @@
 use Rattle.std.proofs.Common.{take}
 use Rattle.std.specs.List.{AllZip}
-use Rattle.uw_shared.specs.Beginnings.{BeginsAsArea}
+use Rattle.uw_shared.specs.BeginningSteps.{BeginsAsArea}
 use Rattle.uw_shared.proofs.local_desk.blank_regions.Given as goal
 
 abbrev pub invariant-loop-size : goal.invariant-loop-size

@@ -3,7 +3,7 @@ use Rattle.std.proofs.Common.{◌≡◌, ◌∷◌, ◌++◌, ◌+◌, [], take,
 use Rattle.std.proofs.lemmas.List.{take_more}
 use Rattle.std.proofs.lemmas.Slice.Zip.{all_zipped_more}
 use Rattle.uw_model.specs.declared.conf.CacheConf.{CacheConf}
-use Rattle.uw_shared.specs.Beginnings.{BeginsAsCache}
+use Rattle.uw_shared.specs.BeginningSteps.{BeginsAsCache}
 use Rattle.uw_shared.proofs.local_desk.empty_vaults.Goals as goal
 
 pub loop-conf-preserved : goal.loop-conf-preserved

@@ -1,6 +1,6 @@
 use Rattle.std.proofs.Common.{take}
 use Rattle.std.specs.List.{AllZip}
-use Rattle.uw_shared.specs.Beginnings.{BeginsAsCache}
+use Rattle.uw_shared.specs.BeginningSteps.{BeginsAsCache}
 use Rattle.uw_shared.proofs.local_desk.empty_vaults.Given as goal
 
 abbrev pub invariant-loop-conf : goal.invariant-loop-conf

@@ -1,4 +1,4 @@
-use Rattle.std.proofs.Common.{◌≡◌, ◌∙◌, sym, ap, subst, refl}
+use Rattle.std.proofs.Common.{sym, ap, subst, refl}
 use Rattle.uw_model.specs.Asks.{DeskParts}
 use Rattle.uw_model.specs.Lists.{Lists}
 use Rattle.uw_rules.specs.PartNumbers.{AskPartsBelow}

@@ -3,7 +3,7 @@ use Rattle.uw_keeper.specs.Keeping.{keeping}
 use Rattle.uw_outside.proofs.Lives.{Spends-none}
 use Rattle.uw_chain.proofs.SpoolLemmas.{kept_none}
 use Rattle.uw_top.specs.Pipe.{both_lead, list_leads}
-use Rattle.uw_top.proofs.Machine.{none_yet, one_more, run_ends, run_is_full}
+use Rattle.uw_top.proofs.Machine.{one_more, run_ends, run_is_full}
 use Rattle.uw_top.proofs.Settling.{not_before, not_since}
 use Rattle.uw_top.proofs.Standing.{run_on}
 use Rattle.uw_top.proofs.pipe.serve_packets.Goals as goal

@@ -1,4 +1,4 @@
-use Rattle.std.proofs.Common.{◌≡◌, ◌∙◌, sym, ap, subst, List, ℕ, ◌∷◌, [], drop}
+use Rattle.std.proofs.Common.{◌≡◌, ◌∙◌, sym, ap, subst, List, ℕ, drop}
 use Rattle.uw_outside.specs.Faults.{Rose}
 use Rattle.uw_outside.specs.Lives.{LifeLeft}
 use Rattle.std.specs.Prelude.{Option, None, Some}
@@ -6,7 +6,6 @@ use Rattle.uw_outside.specs.Streams.{inflow, outflow}
 use Rattle.uw_keeper.specs.Keeping.{keeping}
 use Rattle.uw_chain.proofs.SpoolLemmas.{kept_none}
 use Rattle.uw_ends.specs.declared.ends.RunFault.{RunFault}
-use Rattle.uw_top.specs.declared.pipe.Stop.{Stop}
 use Rattle.uw_top.specs.Pipe.{both_lead}
 use Rattle.uw_top.specs.PipeSteps.{IsLast}
 use Rattle.uw_top.proofs.Settling.{not_dead}

@@ -1,5 +1,4 @@
 use Rattle.std.proofs.Common.{Err}
-use Rattle.uw_keeper.specs.Keeping.{keeping}
 use Rattle.uw_top.specs.Spool.{task_rules_of}
 use Rattle.uw_top.proofs.SpoolLemmas.{of_site}
 use Rattle.uw_top.proofs.spool.run_round.Goals as goal

@@ -1,4 +1,4 @@
-use Rattle.std.proofs.Common.{◌≡◌, ◌<◌, ◌∙◌, ap, refl, subst, arith}
+use Rattle.std.proofs.Common.{◌<◌, ◌∙◌, ap, refl, arith}
 use Rattle.uw_top.proofs.SpoolLemmas.{one_round_more, rounds_end, rounds_over}
 use Rattle.uw_top.proofs.StandingRounds.{rounds_run_on}
 use Rattle.uw_top.proofs.spool.spool.Goals as goal

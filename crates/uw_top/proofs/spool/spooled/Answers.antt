@@ -1,4 +1,4 @@
-use Rattle.std.proofs.Common.{◌≡◌, sym, ap, subst, ◌∙◌}
+use Rattle.std.proofs.Common.{sym, ap, subst}
 use Rattle.uw_outside.specs.Streams.{outflow}
 use Rattle.uw_keeper.specs.Keeping.{Keeping, keeping}
 use Rattle.uw_model.specs.Lists.{Lists}
@@ -8,7 +8,6 @@ use Rattle.uw_rules.specs.Compiled.{rules_of}
 use Rattle.uw_conf.specs.declared.conf.Options.{Options}
 use Rattle.uw_shared.specs.Regions.{RegionsStandFor}
 use Rattle.uw_top.specs.Pipe.{first_lists, list_leads}
-use Rattle.uw_top.specs.SpoolSteps.{RoundsRun}
 use Rattle.uw_top.proofs.Parts.{region_parts}
 use Rattle.uw_top.proofs.SpoolLemmas.{no_round, spool_run}
 use Rattle.uw_top.proofs.spool.spooled.Goals as goal

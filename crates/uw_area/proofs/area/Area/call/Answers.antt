@@ -27,24 +27,33 @@ returns-clause-operated g c =
     subst (λ (v : AreaView). IsStandingArea v.size c.self.inside.held.value.over.room v.words) c.self.view_is c.self.invariant in
     elim c.match-commit.branch [
       | in-Ok-commit w ↦
-          let operated = call_all before now c.args.op.now c.plan_op.new.over held.size held.ram c.frame_of-frame.result size words c.frame_of-frame.ensures refl refl c.in-Ok.ensures.plan (g.L.Life.allowances c.args.life.now) (g.L.Life.allowances c.commit.new.life)
+          let operated = call_all before now c.args.op.now c.plan_op.new.over held.size held.ram c.frame_of-frame.result size words c.frame_of-frame.ensures
+          refl refl c.in-Ok.ensures.plan (g.L.Life.allowances c.args.life.now) (g.L.Life.allowances c.commit.new.life)
           w.in-Ok-commit.ensures.all c.in-Ok.answer c.in-Ok.ensures.answer in
-          subst (λ (i : Inside). HasOperated before (the_view i) c.args.op.now (g.L.Life.allowances c.args.life.now) (g.L.Life.allowances c.commit.new.life) (end_of c.match-commit.result)) (sym w.self-inside-is)
-          (subst (λ (r : Result AreaAnswer CallFault). HasOperated before now c.args.op.now (g.L.Life.allowances c.args.life.now) (g.L.Life.allowances c.commit.new.life) (end_of r)) (sym w.result-is) operated)
+          subst (λ (i : Inside). HasOperated before (the_view i) c.args.op.now (g.L.Life.allowances c.args.life.now) (g.L.Life.allowances c.commit.new.life)
+          (end_of c.match-commit.result)) (sym w.self-inside-is)
+          (subst (λ (r : Result AreaAnswer CallFault). HasOperated before now c.args.op.now (g.L.Life.allowances c.args.life.now)
+          (g.L.Life.allowances c.commit.new.life) (end_of r)) (sym w.result-is) operated)
       | in-Err+in-Bytes-1 w ↦
           let gate : w.is_pending.result ≡ not (eqb (region c.commit.new.ram 10) 0) =
           w.is_pending.ensures ∙ ap (λ (f : Frame). not (eqb (region c.commit.new.ram f.gate) 0)) c.frame_of-frame.ensures in
-          let operated = call_some before now c.args.op.now c.plan_op.new.over held.size held.ram c.frame_of-frame.result size words c.frame_of-frame.ensures refl refl c.in-Ok.ensures.plan (g.L.Life.allowances c.args.life.now) (g.L.Life.allowances c.commit.new.life)
+          let operated = call_some before now c.args.op.now c.plan_op.new.over held.size held.ram c.frame_of-frame.result size words c.frame_of-frame.ensures
+          refl refl c.in-Ok.ensures.plan (g.L.Life.allowances c.args.life.now) (g.L.Life.allowances c.commit.new.life)
           w.in-Err.ensures.part c.self.inside.held.value.over.room kept c.requires.idle w.is_pending.result gate in
-          subst (λ (i : Inside). HasOperated before (the_view i) c.args.op.now (g.L.Life.allowances c.args.life.now) (g.L.Life.allowances c.commit.new.life) (end_of c.match-commit.result)) (sym w.self-inside-is)
-          (subst (λ (r : Result AreaAnswer CallFault). HasOperated before now c.args.op.now (g.L.Life.allowances c.args.life.now) (g.L.Life.allowances c.commit.new.life) (end_of r)) (sym w.result-is) operated)
+          subst (λ (i : Inside). HasOperated before (the_view i) c.args.op.now (g.L.Life.allowances c.args.life.now) (g.L.Life.allowances c.commit.new.life)
+          (end_of c.match-commit.result)) (sym w.self-inside-is)
+          (subst (λ (r : Result AreaAnswer CallFault). HasOperated before now c.args.op.now (g.L.Life.allowances c.args.life.now)
+          (g.L.Life.allowances c.commit.new.life) (end_of r)) (sym w.result-is) operated)
       | in-Err+in-Number-1 w ↦
           let gate : w.is_pending.result ≡ not (eqb (region c.commit.new.ram 10) 0) =
           w.is_pending.ensures ∙ ap (λ (f : Frame). not (eqb (region c.commit.new.ram f.gate) 0)) c.frame_of-frame.ensures in
-          let operated = call_some before now c.args.op.now c.plan_op.new.over held.size held.ram c.frame_of-frame.result size words c.frame_of-frame.ensures refl refl c.in-Ok.ensures.plan (g.L.Life.allowances c.args.life.now) (g.L.Life.allowances c.commit.new.life)
+          let operated = call_some before now c.args.op.now c.plan_op.new.over held.size held.ram c.frame_of-frame.result size words c.frame_of-frame.ensures
+          refl refl c.in-Ok.ensures.plan (g.L.Life.allowances c.args.life.now) (g.L.Life.allowances c.commit.new.life)
           w.in-Err.ensures.part c.self.inside.held.value.over.room kept c.requires.idle w.is_pending.result gate in
-          subst (λ (i : Inside). HasOperated before (the_view i) c.args.op.now (g.L.Life.allowances c.args.life.now) (g.L.Life.allowances c.commit.new.life) (end_of c.match-commit.result)) (sym w.self-inside-is)
-          (subst (λ (r : Result AreaAnswer CallFault). HasOperated before now c.args.op.now (g.L.Life.allowances c.args.life.now) (g.L.Life.allowances c.commit.new.life) (end_of r)) (sym w.result-is) operated)
+          subst (λ (i : Inside). HasOperated before (the_view i) c.args.op.now (g.L.Life.allowances c.args.life.now) (g.L.Life.allowances c.commit.new.life)
+          (end_of c.match-commit.result)) (sym w.self-inside-is)
+          (subst (λ (r : Result AreaAnswer CallFault). HasOperated before now c.args.op.now (g.L.Life.allowances c.args.life.now)
+          (g.L.Life.allowances c.commit.new.life) (end_of r)) (sym w.result-is) operated)
     ]
 
 pub invariant_of-self-2 : goal.invariant_of-self-2
@@ -53,13 +62,15 @@ invariant_of-self-2 g c =
     let room = c.self.inside.held.value.over.room in
     let kept : IsStandingArea before.size c.self.inside.held.value.over.room before.words =
     subst (λ (v : AreaView). IsStandingArea v.size c.self.inside.held.value.over.room v.words) c.self.view_is c.self.invariant in
-    let same : c.plan_op.new.over.room ≡ room = c.plan_op.ensures.room ∙ ap (λ (p : Plan). p.room) c.clear.ensures ∙ ap (λ (h : Held). h.over.room) c.deref_mut-held.ensures.value in
+    let same : c.plan_op.new.over.room ≡ room = c.plan_op.ensures.room ∙ ap (λ (p : Plan). p.room) c.clear.ensures
+    ∙ ap (λ (h : Held). h.over.room) c.deref_mut-held.ensures.value in
     let later : c.match-commit.self-inside.held.value.over.room ≡ room = elim c.match-commit.branch [
       | in-Ok-commit w ↦ ap (λ (i : Inside). i.held.value.over.room) w.self-inside-is ∙ same
       | in-Err+in-Bytes-1 w ↦ ap (λ (i : Inside). i.held.value.over.room) w.self-inside-is ∙ same
       | in-Err+in-Number-1 w ↦ ap (λ (i : Inside). i.held.value.over.room) w.self-inside-is ∙ same
     ] in
-    kept_behind before (the_view c.match-commit.self-inside) c.args.op.now (g.L.Life.allowances c.args.life.now) (g.L.Life.allowances c.commit.new.life) (end_of c.match-commit.result) room
+    kept_behind before (the_view c.match-commit.self-inside) c.args.op.now (g.L.Life.allowances c.args.life.now) (g.L.Life.allowances c.commit.new.life)
+    (end_of c.match-commit.result) room
     c.match-commit.self-inside.held.value.over.room kept c.requires.idle later (returns-clause-operated g c)
 
 pub is_pending-requires : goal.is_pending-requires
@@ -68,8 +79,10 @@ is_pending-requires g c =
     let old = c.self.inside.held.value in
     let size : held.size ≡ old.size = ap (λ (h : Held). h.size) c.deref_mut-held.ensures.value in
     let len : length c.commit.new.ram ≡ area_words held.size =
-    ap (length {A = ℕ}) c.in-Err.ensures.part.words ∙ length-made (take c.in-Err.ensures.part.count (commit_writes c.frame_of-frame.result c.plan_op.new.over.writes)) held.ram
-    ∙ ap (λ (h : Held). length h.ram) c.deref_mut-held.ensures.value ∙ standing_frame old.size old.ram c.self.invariant.state c.self.invariant.stands ∙ ap area_words (sym size) in
+    ap (length {A = ℕ}) c.in-Err.ensures.part.words ∙ length-made (take c.in-Err.ensures.part.count
+    (commit_writes c.frame_of-frame.result c.plan_op.new.over.writes)) held.ram
+    ∙ ap (λ (h : Held). length h.ram) c.deref_mut-held.ensures.value ∙ standing_frame old.size old.ram c.self.invariant.state c.self.invariant.stands
+    ∙ ap area_words (sym size) in
     subst (λ (f : Frame). IsFrame f (length c.commit.new.ram)) (sym c.frame_of-frame.ensures) (is_frame held.size (length c.commit.new.ram) len)
 
 pub returns-clause-closed : goal.returns-clause-closed
@@ -84,7 +97,8 @@ returns-clause-closed g c =
     elim c.match-commit.branch [
       | in-Ok-commit w ↦ λ alive.
           subst (λ (i : Inside). region i.held.value.ram 10 ≡ 0) (sym w.self-inside-is)
-          (call_closed before now c.args.op.now c.plan_op.new.over held.size held.ram c.frame_of-frame.result size words c.frame_of-frame.ensures refl refl c.in-Ok.ensures.plan (g.L.Life.allowances c.args.life.now) (g.L.Life.allowances c.commit.new.life)
+          (call_closed before now c.args.op.now c.plan_op.new.over held.size held.ram c.frame_of-frame.result size words c.frame_of-frame.ensures refl refl
+          c.in-Ok.ensures.plan (g.L.Life.allowances c.args.life.now) (g.L.Life.allowances c.commit.new.life)
           w.in-Ok-commit.ensures.all c.self.inside.held.value.over.room kept c.requires.idle)
       | in-Err+in-Bytes-1 w ↦ λ alive. absurd (subst (λ (r : Result AreaAnswer CallFault). has_call_died r ≡ false → ⊥) (sym w.result-is) (λ same. cc) alive)
       | in-Err+in-Number-1 w ↦ λ alive. absurd (subst (λ (r : Result AreaAnswer CallFault). has_call_died r ≡ false → ⊥) (sym w.result-is) (λ same. cc) alive)

@@ -11,5 +11,7 @@ is_pending-requires c =
     let held = c.self.inside.held.value in
     let size : c.deref-2.result.now.size ≡ held.size = ap (λ (h : Held). h.size) c.deref-2.ensures in
     let len : length c.deref.result.now.ram ≡ area_words c.deref-2.result.now.size =
-    ap (λ (h : Held). length h.ram) c.deref.ensures ∙ standing_frame held.size held.ram c.self.invariant.state c.self.invariant.stands ∙ ap area_words (sym size) in
-    subst (λ (f : Frame). IsFrame f (length c.deref.result.now.ram)) (sym c.frame_of.ensures) (is_frame c.deref-2.result.now.size (length c.deref.result.now.ram) len)
+    ap (λ (h : Held). length h.ram) c.deref.ensures ∙ standing_frame held.size held.ram c.self.invariant.state c.self.invariant.stands
+    ∙ ap area_words (sym size) in
+    subst (λ (f : Frame). IsFrame f (length c.deref.result.now.ram)) (sym c.frame_of.ensures) (is_frame c.deref-2.result.now.size
+    (length c.deref.result.now.ram) len)

@@ -11,6 +11,7 @@ recover-requires-clause-frame g c =
     let held = c.self.inside.held.value in
     let size : c.deref_mut-held.result.now.size ≡ held.size = ap (λ (h : Held). h.size) c.deref_mut-held.ensures.value in
     let len : length c.deref_mut-held.result.now.ram ≡ area_words c.deref_mut-held.result.now.size =
-    ap (λ (h : Held). length h.ram) c.deref_mut-held.ensures.value ∙ standing_frame held.size held.ram c.self.invariant.state c.self.invariant.stands ∙ ap area_words (sym size) in
+    ap (λ (h : Held). length h.ram) c.deref_mut-held.ensures.value ∙ standing_frame held.size held.ram c.self.invariant.state c.self.invariant.stands
+    ∙ ap area_words (sym size) in
     subst (λ (f : Frame). IsFrame f (length c.deref_mut-held.result.now.ram)) (sym c.frame_of.ensures)
     (is_frame c.deref_mut-held.result.now.size (length c.deref_mut-held.result.now.ram) len)

@@ -13,13 +13,15 @@ pub told-requires-clause-tells : goal.told-requires-clause-tells
 told-requires-clause-tells g c =
     let held = c.deref_mut-held.result.now in
     let o = opened held c.self.inside.held.value c.args.self.now c.deref_mut-held.ensures.value c.self.view_is c.self.invariant in
-    (answer held.conf o.was.list c.args.moment c.args.call.now, c.plan_call-planned.ensures.tells o.was.list (idle_agrees held c.args.self.now o c.requires.idle))
+    let agrees = idle_agrees held c.args.self.now o c.requires.idle in
+    (answer held.conf o.was.list c.args.moment c.args.call.now, c.plan_call-planned.ensures.tells o.was.list agrees)
 
 pub returns-in_default-clause-made : goal.returns-in_default-clause-made
 returns-in_default-clause-made g c =
     let held = c.deref_mut-held.result.now in
     let o = opened held c.self.inside.held.value c.args.self.now c.deref_mut-held.ensures.value c.self.view_is c.self.invariant in
-    unmade held c.args.self.now o c.requires.idle (frame_of (shape_of held.conf)) refl c.plan_call-planned.new.over.writes c.args.moment c.args.call.now _ _ c.plan_call-planned.ensures.right refl
+    unmade held c.args.self.now o c.requires.idle (frame_of (shape_of held.conf)) refl c.plan_call-planned.new.over.writes c.args.moment
+    c.args.call.now _ _ c.plan_call-planned.ensures.right refl
     (c.plan_call-planned.ensures.copies (copied_where c.plan_call-planned.result c.in_default.field-0 c.told.result c.in_default.is c.told.ensures.ready))
 
 pub is_pending-requires : goal.is_pending-requires
@@ -33,7 +35,8 @@ pub invariant_of-self-2 : goal.invariant_of-self-2
 invariant_of-self-2 g c =
     let held = c.deref_mut-held.result.now in
     let o = opened held c.self.inside.held.value c.args.self.now c.deref_mut-held.ensures.value c.self.view_is c.self.invariant in
-    let room : c.plan_call-planned.new.over.room ≡ plan_room held.conf = c.plan_call-planned.ensures.room ∙ ap (λ (plan : Plan). plan.room) c.clear.ensures ∙ o.was.room in
+    let room : c.plan_call-planned.new.over.room ≡ plan_room held.conf =
+    c.plan_call-planned.ensures.room ∙ ap (λ (plan : Plan). plan.room) c.clear.ensures ∙ o.was.room in
     let all = all_vault held c.args.self.now o c.requires.idle c.frame_of-frame.result (c.frame_of-frame.ensures ∙ ap frame_of c.shape_of.ensures.parts)
     c.plan_call-planned.new.over.writes c.args.moment c.args.call.now _ _ c.plan_call-planned.ensures.right c.commit.new.ram in
     let some = some_vault held c.args.self.now o c.requires.idle c.frame_of-frame.result (c.frame_of-frame.ensures ∙ ap frame_of c.shape_of.ensures.parts)
@@ -49,7 +52,8 @@ pub returns-clause-made : goal.returns-clause-made
 returns-clause-made g c =
     let held = c.deref_mut-held.result.now in
     let o = opened held c.self.inside.held.value c.args.self.now c.deref_mut-held.ensures.value c.self.view_is c.self.invariant in
-    let same = λ (list : List Entry) (agrees : Agrees held.conf held.ram list). c.in-Ok.ensures.answer (answer held.conf list c.args.moment c.args.call.now) (c.plan_call-planned.ensures.tells list agrees) in
+    let same = λ (list : List Entry) (agrees : Agrees held.conf held.ram list).
+    c.in-Ok.ensures.answer (answer held.conf list c.args.moment c.args.call.now) (c.plan_call-planned.ensures.tells list agrees) in
     let all = answered held c.args.self.now o c.requires.idle c.frame_of-frame.result (c.frame_of-frame.ensures ∙ ap frame_of c.shape_of.ensures.parts)
     c.plan_call-planned.new.over.writes c.args.moment c.args.call.now _ _ c.plan_call-planned.ensures.right c.commit.new.ram in
     let some = broken held c.args.self.now o c.requires.idle c.frame_of-frame.result (c.frame_of-frame.ensures ∙ ap frame_of c.shape_of.ensures.parts)

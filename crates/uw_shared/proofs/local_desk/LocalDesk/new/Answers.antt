@@ -4,11 +4,8 @@ use Rattle.std.proofs.lemmas.Slice.Zip.{AllZip-long}
 use Rattle.std.specs.List.{AllZip, list_all}
 use Rattle.uw_model.specs.Asks.{DeskParts}
 use Rattle.uw_model.specs.Lists.{empty_lists}
-use Rattle.uw_cache.specs.Vaults.{VaultView, vault_frame}
-use Rattle.uw_area.specs.AreaViews.{AreaView}
-use Rattle.uw_area.specs.AreaWords.{area_frame}
-use Rattle.uw_shared.specs.Beginnings.{BeginsAsArea, BeginsAsCache}
-use Rattle.uw_shared.specs.Regions.{is_closed}
+use Rattle.uw_shared.specs.BeginningSteps.{BeginsAsArea, BeginsAsCache}
+use Rattle.uw_shared.specs.Regions.{is_area_closed, is_vault_closed}
 use Rattle.uw_shared.proofs.Beginnings.{areas_closed, areas_stand, caches_closed, caches_stand, caches_within}
 use Rattle.uw_shared.proofs.Places.{join_true}
 use Rattle.uw_shared.proofs.local_desk.LocalDesk.new.Goals as goal
@@ -37,12 +34,13 @@ returns-clause-stand c =
 
 pub returns-clause-settled : goal.returns-clause-settled
 returns-clause-settled c =
-    join_true (list_all (λ (vault : VaultView). is_closed (vault_frame vault) vault.words) c.in_ok-caches.caches.items)
-    (list_all (λ (area : AreaView). is_closed (area_frame area.size) area.words) c.in_ok-areas.areas.items)
-    (caches_closed c.as_slice.result.now c.in_ok-caches.caches.items c.in_ok-caches.ensures) (areas_closed c.as_slice-2.result.now c.in_ok-areas.areas.items c.in_ok-areas.ensures)
+    join_true (list_all is_vault_closed c.in_ok-caches.caches.items)
+    (list_all is_area_closed c.in_ok-areas.areas.items)
+    (caches_closed c.as_slice.result.now c.in_ok-caches.caches.items c.in_ok-caches.ensures)
+    (areas_closed c.as_slice-2.result.now c.in_ok-areas.areas.items c.in_ok-areas.ensures)
 
 pub returns-clause-parts : goal.returns-clause-parts
 returns-clause-parts c = rw (← c.as_slice.ensures, ← c.as_slice-2.ensures)
     (ap₂ (λ (caches areas : ℕ). let parts : DeskParts = record { caches = caches; areas = areas } in parts)
-      (AllZip-long BeginsAsCache c.as_slice.result.now c.in_ok-caches.caches.items c.in_ok-caches.ensures)
-      (AllZip-long BeginsAsArea c.as_slice-2.result.now c.in_ok-areas.areas.items c.in_ok-areas.ensures))
+    (AllZip-long BeginsAsCache c.as_slice.result.now c.in_ok-caches.caches.items c.in_ok-caches.ensures)
+    (AllZip-long BeginsAsArea c.as_slice-2.result.now c.in_ok-areas.areas.items c.in_ok-areas.ensures))

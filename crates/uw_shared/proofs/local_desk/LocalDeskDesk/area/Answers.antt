@@ -22,7 +22,8 @@ returns-clause-asked g c moment =
     (omega (arith, c.requires.known, ap (λ (d : Regions). length d.areas) c.self.view_is)) c.index_mut.ensures.value in
     let t = c.recovered_call in
     rw (c.told.ensures, ← c.self.view_is)
-    (area_asked (record { caches = c.self.inside.caches.items; areas = areas }) c.self.invariant c.args.area moment c.args.op.now c.index_mut.result.now t.new.held
+    (area_asked (record { caches = c.self.inside.caches.items; areas = areas }) c.self.invariant c.args.area moment c.args.op.now c.index_mut.result.now
+    t.new.held
     (g.L.Life.allowances c.args.life.now) (g.L.Life.allowances t.new.life) t.result here t.ensures.conf t.ensures.turn t.ensures.refused)
 
 pub returns-clause-settled : goal.returns-clause-settled

@@ -12,8 +12,8 @@ invariant_of-self g c =
     let here : slice_get caches c.args.cache ≡ Some c.index_mut.result.now = slice_get_read caches (length caches) c.args.cache c.index_mut.result.now refl
     (omega (arith, c.requires.known, ap (λ (d : Regions). length d.caches) c.self.view_is)) c.index_mut.ensures.value in
     let t = c.recovered_call in
-    cache_still (record { caches = caches; areas = c.self.inside.areas.items }) c.self.invariant c.args.cache c.args.moment c.args.call.now c.index_mut.result.now t.new.held
-    (g.L.Life.allowances c.args.life.now) (g.L.Life.allowances t.new.life) t.result here t.ensures.conf t.ensures.turn
+    cache_still (record { caches = caches; areas = c.self.inside.areas.items }) c.self.invariant c.args.cache c.args.moment
+    c.args.call.now c.index_mut.result.now t.new.held (g.L.Life.allowances c.args.life.now) (g.L.Life.allowances t.new.life) t.result here t.ensures.conf t.ensures.turn
 
 pub returns-clause-asked : goal.returns-clause-asked
 returns-clause-asked g c =
@@ -22,8 +22,8 @@ returns-clause-asked g c =
     (omega (arith, c.requires.known, ap (λ (d : Regions). length d.caches) c.self.view_is)) c.index_mut.ensures.value in
     let t = c.recovered_call in
     rw (c.told.ensures, ← c.self.view_is)
-    (cache_asked (record { caches = caches; areas = c.self.inside.areas.items }) c.self.invariant c.args.cache c.args.moment c.args.call.now c.index_mut.result.now t.new.held
-    (g.L.Life.allowances c.args.life.now) (g.L.Life.allowances t.new.life) t.result here t.ensures.conf t.ensures.turn t.ensures.refused)
+    (cache_asked (record { caches = caches; areas = c.self.inside.areas.items }) c.self.invariant c.args.cache c.args.moment
+    c.args.call.now c.index_mut.result.now t.new.held (g.L.Life.allowances c.args.life.now) (g.L.Life.allowances t.new.life) t.result here t.ensures.conf t.ensures.turn t.ensures.refused)
 
 pub returns-clause-settled : goal.returns-clause-settled
 returns-clause-settled g c =
@@ -32,5 +32,5 @@ returns-clause-settled g c =
     (omega (arith, c.requires.known, ap (λ (d : Regions). length d.caches) c.self.view_is)) c.index_mut.ensures.value in
     let t = c.recovered_call in
     rw (c.told.ensures, ← c.self.view_is)
-    (cache_settled (record { caches = caches; areas = c.self.inside.areas.items }) c.self.invariant c.args.cache c.args.moment c.args.call.now c.index_mut.result.now t.new.held
-    (g.L.Life.allowances c.args.life.now) (g.L.Life.allowances t.new.life) t.result here t.ensures.conf t.ensures.turn t.ensures.closed)
+    (cache_settled (record { caches = caches; areas = c.self.inside.areas.items }) c.self.invariant c.args.cache c.args.moment
+    c.args.call.now c.index_mut.result.now t.new.held (g.L.Life.allowances c.args.life.now) (g.L.Life.allowances t.new.life) t.result here t.ensures.conf t.ensures.turn t.ensures.closed)
