@@ -342,7 +342,8 @@ class Page:
                 return 'ask', ask
             told = answers[k]
             if action.startswith('incache:'):
-                body, sent = body + (b'in|' if told[1] else b''), sent or told[1]
+                holds = told == ('flag', True)
+                body, sent = body + (b'in|' if holds else b''), sent or holds
             elif action.startswith('cache:'):
                 if told[0] == 'value':
                     return 'reply', http(b'Content-Type: text/html\r\n', body + told[1])
