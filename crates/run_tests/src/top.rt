@@ -115,49 +115,8 @@ const PIPE: Case = Case {
     text: b"",
 };
 
-const CASES: [Case; 49] = [
-    PIPE,
-    // Rules that are refused, and rules that are taken.
-    Case {
-        conf: b"[uwsgi]\nroute-label = a\nroute-run = goto:a\n",
-        status: 2,
-        text: b"conf line 3: LabelNotAhead",
-        ..PIPE
-    },
-    Case {
-        conf: b"[uwsgi]\nroute = a break\n",
-        patterns_refused: &[1],
-        status: 2,
-        text: b"conf line 2: PatternRefused",
-        ..PIPE
-    },
-    Case {
-        conf: b"[uwsgi]\nroute-run = cachedel:key=a\nworkers = 0\n",
-        status: 2,
-        text: b"conf line 2: UnknownName",
-        ..PIPE
-    },
-    Case {
-        conf: b"[uwsgi]\nroute-run = cachedel:key=a\ncache2 = name=c,items=4\n",
-        input: SET_AND_GET,
-        output: OK_AND_VALUE,
-        ..PIPE
-    },
-    Case {
-        input: SET_AND_GET,
-        output: OK_AND_VALUE,
-        ..PIPE
-    },
-    Case {
-        input: b"\x6f\x06\x00\x01\x01\x00k\x01\x00v\x6f\x06\x00\x01\x01\x00k\x01\x00w\x6f\x01\x00\x00k",
-        output: b"\x02\x00\x00\x00ok\x06\x00\x00\x00exists\x01\x00\x00\x00v",
-        ..PIPE
-    },
-    Case {
-        input: b"\x6f\x01\x00\x00k",
-        output: b"\x00\x00\x00\x00",
-        ..PIPE
-    },
+// Workers that die.
+const DEATHS: [Case; 7] = [
     // Workers that die in place of a word write: of the first one, of the one by which the call counts, of the next one, of
     // the last one, and of one that never comes.
     Case {
@@ -201,6 +160,51 @@ const CASES: [Case; 49] = [
         words: &["pipe", "--die", "1,1000000000"],
         input: SET_AND_GET,
         output: DEAD_ABSENT,
+        ..PIPE
+    },
+];
+
+const CASES: [Case; 42] = [
+    PIPE,
+    // Rules that are refused, and rules that are taken.
+    Case {
+        conf: b"[uwsgi]\nroute-label = a\nroute-run = goto:a\n",
+        status: 2,
+        text: b"conf line 3: LabelNotAhead",
+        ..PIPE
+    },
+    Case {
+        conf: b"[uwsgi]\nroute = a break\n",
+        patterns_refused: &[1],
+        status: 2,
+        text: b"conf line 2: PatternRefused",
+        ..PIPE
+    },
+    Case {
+        conf: b"[uwsgi]\nroute-run = cachedel:key=a\nworkers = 0\n",
+        status: 2,
+        text: b"conf line 2: UnknownName",
+        ..PIPE
+    },
+    Case {
+        conf: b"[uwsgi]\nroute-run = cachedel:key=a\ncache2 = name=c,items=4\n",
+        input: SET_AND_GET,
+        output: OK_AND_VALUE,
+        ..PIPE
+    },
+    Case {
+        input: SET_AND_GET,
+        output: OK_AND_VALUE,
+        ..PIPE
+    },
+    Case {
+        input: b"\x6f\x06\x00\x01\x01\x00k\x01\x00v\x6f\x06\x00\x01\x01\x00k\x01\x00w\x6f\x01\x00\x00k",
+        output: b"\x02\x00\x00\x00ok\x06\x00\x00\x00exists\x01\x00\x00\x00v",
+        ..PIPE
+    },
+    Case {
+        input: b"\x6f\x01\x00\x00k",
+        output: b"\x00\x00\x00\x00",
         ..PIPE
     },
     // Packets that are refused or cut.
@@ -498,6 +502,12 @@ const REQUESTS: [Case; 8] = [
         ..PIPE
     },
 ];
+
+#[test]
+fn each_death_is_told_and_the_next_packet_is_served(rt: HostRuntime) -> Result<(), Fail> {
+    assert_eq!(rt; wrong(rt.alloc(), &DEATHS)?, None);
+    Ok(())
+}
 
 #[test]
 fn each_run_writes_its_output_and_ends_with_its_status(rt: HostRuntime) -> Result<(), Fail> {
